@@ -1,0 +1,89 @@
+-- What the rows and tables of the codes have in common: each is one test over all codes. Assumes nothing.
+use mathlib.Core.Bool.{Bool, true, false}
+use mathlib.Core.List.{List, [], _∷_}
+use mathlib.Core.Path.{_≡_, refl, sym, subst}
+use Prim.Native.Nat.{ℕ, _+_, _-_, _*_, _/_, _%_, _≤_, _<_}
+use native.Mathlib.Omega.{arith}
+use lib.Dec.{T, ltb, leb, eqb, ltb→lt, leb→le, eqb→eq}
+use lib.ListN.{getD}
+use borrow.Author.Tests.{ltb-false}
+use Rattle.maths.specs.Tests.{pick, both, all}
+use Rattle.maths.proofs.Tests.{both-left, both-right, all-at, all-anywhere}
+use Rattle.codes.specs.declared.CodeParams.{CodeParams}
+use Rattle.codes.specs.declared.MatrixTables.{MatrixTables}
+use Rattle.codes.specs.declared.«parity_iter».Block.{Block}
+use Rattle.codes.specs.declared.«parity_iter».Block.the-variants.{Ends, Empty, Identity, Permutation}
+use Rattle.codes.specs.Tables.{prototypes}
+use Rattle.codes.specs.Codes.{Known, rows, row, rowOf, tables, tablesOf, prototypeOf}
+use Rattle.codes.specs.Blocks.{byteAt, blockOf}
+
+-- the size of a block: at least 16, at most 512, and a multiple of 4
+pub record Sized (m : ℕ) : Type 0 where
+  pub low : 16 ≤ m
+  pub high : m ≤ 512
+  pub four : m % 4 ≡ 0
+
+size-test : CodeParams → Bool
+size-test r =
+    let m = r .«submatrix_size» in
+    both (leb 16 m) (both (leb m 512) (eqb (m % 4) 0))
+
+pub sized : (code : ℕ) → Known code → Sized (rowOf code .«submatrix_size»)
+unfolding rows size-test
+sized code h =
+    let m = rowOf code .«submatrix_size» in
+    let a = all-at size-test (row 0 0 0 0 0 0) rows tt code h in
+    let b = both-right (leb 16 m) (both (leb m 512) (eqb (m % 4) 0)) a in
+    record {
+      low = leb→le 16 m (both-left (leb 16 m) (both (leb m 512) (eqb (m % 4) 0)) a);
+      high = leb→le m 512 (both-left (leb m 512) (eqb (m % 4) 0) b);
+      four = eqb→eq (m % 4) 0 (both-right (leb m 512) (eqb (m % 4) 0) b);
+    }
+
+-- the tables of every code are there
+tables-test : MatrixTables → Bool
+tables-test t = both (ltb (t .prototype) 6) (ltb (t .phi) 3)
+
+pub tables-low : (code : ℕ) → Known code → (tablesOf code .prototype < 6) × (tablesOf code .phi < 3)
+unfolding tables tables-test
+tables-low code h =
+    let t = tablesOf code in
+    let a = all-at tables-test (record { prototype = 0; phi = 0 }) tables tt code h in
+    (ltb→lt (t .prototype) 6 (both-left (ltb (t .prototype) 6) (ltb (t .phi) 3) a), ltb→lt (t .phi) 3 (both-right (ltb (t .prototype) 6) (ltb (t .phi) 3) a))
+
+-- every prototype byte is below 154, so that a permutation's value is below 26
+byte-test : ℕ → Bool
+byte-test b = ltb b 154
+
+byte-low : (code l r c : ℕ) → byteAt (prototypeOf code) l r c < 154
+unfolding prototypes byte-test
+byte-low code l r c =
+    let H = prototypeOf code in
+    let a = all-anywhere (all (all (all byte-test))) [] tt prototypes tt (tablesOf code .prototype) in
+    let b = all-anywhere (all (all byte-test)) [] tt H a l in
+    let d = all-anywhere (all byte-test) [] tt (getD H l []) b r in
+    ltb→lt (byteAt H l r c) 154 (all-anywhere byte-test 0 tt (getD (getD H l []) r []) d c)
+
+-- the value of an identity is below 64, that of a permutation is an index of theta and phi
+abbrev pub Small : Block → Type 0
+Small Ends = Unit
+Small Empty = Unit
+Small (Identity v) = v < 64
+Small (Permutation v) = v < 26
+
+small-pick : (t : Bool) (a b : Block) → (t ≡ true → Small a) → (t ≡ false → Small b) → Small (pick t a b)
+small-pick true a b x y = x refl
+small-pick false a b x y = y refl
+
+byte-small : (b : ℕ) → b < 154 → Small (blockOf b)
+unfolding blockOf
+byte-small b h =
+    small-pick (ltb b 64) _ _
+    (λ _. small-pick (eqb b 0) Ends Empty (λ _. tt) (λ _. tt))
+    (λ _. small-pick (ltb b 128) (Identity (b % 64)) _
+    (λ _. omega arith)
+    (λ e. small-pick (ltb b 192) (Permutation (b % 64)) Empty (λ _. omega (arith, ltb-false b 128 e)) (λ _. tt)))
+
+-- the block b is one of the code's
+pub block-small : (code l r c : ℕ) (b : Block) → b ≡ blockOf (byteAt (prototypeOf code) l r c) → Small b
+block-small code l r c b e = subst Small (sym e) (byte-small (byteAt (prototypeOf code) l r c) (byte-low code l r c))

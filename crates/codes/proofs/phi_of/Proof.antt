@@ -1,0 +1,19 @@
+use mathlib.Core.Path.{refl}
+use native.Mathlib.Omega.{arith}
+use borrow.Author.Needs.{needs}
+use Rattle.codes.specs.Tables.{phis}
+use Rattle.codes.specs.Codes.{tables}
+use Rattle.codes.proofs.Codes.{tables-low}
+use Rattle.codes.proofs.phi_of.Statement.{statement}
+use Rattle.codes.proofs.phi_of.Tie as tie
+
+pub phi-of-spec : {M : Type 1} → statement M
+unfolding tables phis
+phi-of-spec =
+    tie.close
+    (tie.spec
+    (λ c. search needs)
+    (λ c. search needs)
+    (λ c. omega (arith, tables-low (c .args .code) (c .pre) .1))
+    (λ c. tables-low (c .args .code) (c .pre) .1)
+    (λ c. refl))

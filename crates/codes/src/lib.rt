@@ -1,0 +1,229 @@
+// The codes: their parameters and tables, and the numbers by which the library answers. (Rust: codes/mod.rs)
+ghost use mathlib.Core.Path.{_≡_};
+ghost use Rattle.codes.specs.Codes.{Known, rowOf, paramsOf, prototypeOf, phiOf};
+
+pub mod compact_generators;
+pub mod compact_parity_checks;
+pub mod parity_iter;
+
+use compact_parity_checks::PHI_J_K;
+use compact_parity_checks::PROTOTYPES;
+
+// The answers: 0, or the first test that a call fails.
+pub const ACCEPTED: u8 = 0;
+
+pub const UNKNOWN_CODE: u8 = 1;
+
+pub const WRONG_READ: u8 = 2;
+
+pub const WRONG_WRITTEN: u8 = 3;
+
+pub const WRONG_WORKING: u8 = 4;
+
+pub const WRONG_SIGNS: u8 = 5;
+
+// How many codes there are: TC128, TC256, TC512, TM1280, TM1536, TM2048, TM5120, numbered from 0.
+pub const CODES: usize = 7;
+
+pub struct CodeParams {
+    // Bits sent.
+    pub n: usize,
+    // Bits of data.
+    pub k: usize,
+    // Parity bits that are not sent.
+    pub punctured_bits: usize,
+    // Side of a block of the parity check matrix.
+    pub submatrix_size: usize,
+    // Side of a circulant of the generator.
+    pub circulant_size: usize,
+    // Edges of the parity check matrix.
+    pub paritycheck_sum: u32,
+    // Lengths of what a caller lends.
+    pub decode_bf_working_len: usize,
+    pub decode_ms_working_len: usize,
+    pub decode_ms_working_u8_len: usize,
+    pub output_len: usize,
+}
+
+const PARAMS: [CodeParams; 7] = [
+    CodeParams {
+        n: 128,
+        k: 64,
+        punctured_bits: 0,
+        submatrix_size: 16,
+        circulant_size: 16,
+        paritycheck_sum: 512,
+        decode_bf_working_len: 128,
+        decode_ms_working_len: 1280,
+        decode_ms_working_u8_len: 8,
+        output_len: 16,
+    },
+    CodeParams {
+        n: 256,
+        k: 128,
+        punctured_bits: 0,
+        submatrix_size: 32,
+        circulant_size: 32,
+        paritycheck_sum: 1024,
+        decode_bf_working_len: 256,
+        decode_ms_working_len: 2560,
+        decode_ms_working_u8_len: 16,
+        output_len: 32,
+    },
+    CodeParams {
+        n: 512,
+        k: 256,
+        punctured_bits: 0,
+        submatrix_size: 64,
+        circulant_size: 64,
+        paritycheck_sum: 2048,
+        decode_bf_working_len: 512,
+        decode_ms_working_len: 5120,
+        decode_ms_working_u8_len: 32,
+        output_len: 64,
+    },
+    CodeParams {
+        n: 1280,
+        k: 1024,
+        punctured_bits: 128,
+        submatrix_size: 128,
+        circulant_size: 32,
+        paritycheck_sum: 4992,
+        decode_bf_working_len: 1408,
+        decode_ms_working_len: 12160,
+        decode_ms_working_u8_len: 48,
+        output_len: 176,
+    },
+    CodeParams {
+        n: 1536,
+        k: 1024,
+        punctured_bits: 256,
+        submatrix_size: 256,
+        circulant_size: 64,
+        paritycheck_sum: 5888,
+        decode_bf_working_len: 1792,
+        decode_ms_working_len: 15104,
+        decode_ms_working_u8_len: 96,
+        output_len: 224,
+    },
+    CodeParams {
+        n: 2048,
+        k: 1024,
+        punctured_bits: 512,
+        submatrix_size: 512,
+        circulant_size: 128,
+        paritycheck_sum: 7680,
+        decode_bf_working_len: 2560,
+        decode_ms_working_len: 20992,
+        decode_ms_working_u8_len: 192,
+        output_len: 320,
+    },
+    CodeParams {
+        n: 5120,
+        k: 4096,
+        punctured_bits: 512,
+        submatrix_size: 512,
+        circulant_size: 128,
+        paritycheck_sum: 19968,
+        decode_bf_working_len: 5632,
+        decode_ms_working_len: 48640,
+        decode_ms_working_u8_len: 192,
+        output_len: 704,
+    },
+];
+
+const NO_CODE: CodeParams = CodeParams {
+    n: 0,
+    k: 0,
+    punctured_bits: 0,
+    submatrix_size: 0,
+    circulant_size: 0,
+    paritycheck_sum: 0,
+    decode_bf_working_len: 0,
+    decode_ms_working_len: 0,
+    decode_ms_working_u8_len: 0,
+    output_len: 0,
+};
+
+// Which prototype and which table phi a code's matrix is made of.
+pub struct MatrixTables {
+    pub prototype: usize,
+    pub phi: usize,
+}
+
+const TABLES: [MatrixTables; 7] = [
+    MatrixTables {
+        prototype: 0,
+        phi: 0,
+    },
+    MatrixTables {
+        prototype: 1,
+        phi: 0,
+    },
+    MatrixTables {
+        prototype: 2,
+        phi: 0,
+    },
+    MatrixTables {
+        prototype: 5,
+        phi: 0,
+    },
+    MatrixTables {
+        prototype: 4,
+        phi: 1,
+    },
+    MatrixTables {
+        prototype: 3,
+        phi: 2,
+    },
+    MatrixTables {
+        prototype: 5,
+        phi: 2,
+    },
+];
+
+// An answer, and the parameters of the code, all 0 where it is refused.
+pub struct ParamsAnswer {
+    pub answer: u8,
+    pub row: CodeParams,
+}
+
+pub(crate) fn row_of(code: usize) -> CodeParams
+    requires { ⌜ Known code ⌝ }
+    ensures { λ r. ⌜ r ≡ rowOf code ⌝ }
+{
+    PARAMS[code]
+}
+
+pub(crate) fn prototype_of(code: usize) -> [[[u8; 11]; 4]; 3]
+    requires { ⌜ Known code ⌝ }
+    ensures { λ r. ⌜ r ≡ prototypeOf code ⌝ }
+{
+    let t = TABLES[code].prototype;
+    PROTOTYPES[t]
+}
+
+pub(crate) fn phi_of(code: usize) -> [[u16; 26]; 4]
+    requires { ⌜ Known code ⌝ }
+    ensures { λ r. ⌜ r ≡ phiOf code ⌝ }
+{
+    let t = TABLES[code].phi;
+    PHI_J_K[t]
+}
+
+// The parameters of a code.
+pub fn params(code: usize) -> ParamsAnswer
+    ensures { λ r. ⌜ r ≡ paramsOf code ⌝ }
+{
+    if code < CODES {
+        ParamsAnswer {
+            answer: ACCEPTED,
+            row: row_of(code),
+        }
+    } else {
+        ParamsAnswer {
+            answer: UNKNOWN_CODE,
+            row: NO_CODE,
+        }
+    }
+}

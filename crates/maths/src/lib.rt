@@ -1,0 +1,1 @@
+// Mathematics that the crates share, in specs/ and proofs/: no function.
