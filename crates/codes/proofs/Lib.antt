@@ -2,3 +2,4 @@ pub mod Blocks
 pub mod Codes
 pub mod Columns
 pub mod Walk
+pub mod Remaining
