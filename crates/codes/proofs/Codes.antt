@@ -16,12 +16,7 @@ use Rattle.codes.specs.declared.«parity_iter».Block.the-variants.{Ends
 use Rattle.codes.specs.Tables.{prototypes}
 use Rattle.codes.specs.Codes.{Known, rows, row, rowOf, tables, tablesOf, prototypeOf}
 use Rattle.codes.specs.Blocks.{byteAt, blockOf}
-
--- the size of a block: at least 16, at most 512, and a multiple of 4
-pub record Sized (m : ℕ) : Type 0 where
-  pub low : 16 ≤ m
-  pub high : m ≤ 512
-  pub four : m % 4 ≡ 0
+use Rattle.codes.specs.Sound.{Sized, Small}
 
 size-test : CodeParams → Bool
 size-test r =
@@ -63,13 +58,6 @@ byte-low code l r c =
     let b = all-anywhere (all (all byte-test)) [] tt H a l in
     let d = all-anywhere (all byte-test) [] tt (getD H l []) b r in
     ltb→lt (byteAt H l r c) 154 (all-anywhere byte-test 0 tt (getD (getD H l []) r []) d c)
-
--- the value of an identity is below 64, that of a permutation is an index of theta and phi
-abbrev pub Small : Block → Type 0
-Small Ends = Unit
-Small Empty = Unit
-Small (Identity v) = v < 64
-Small (Permutation v) = v < 26
 
 small-pick : (t : Bool) (a b : Block) → (t ≡ true → Small a) → (t ≡ false → Small b) → Small (pick t a b)
 small-pick true a b x y = x refl

@@ -3,3 +3,6 @@ pub mod Codes
 pub mod Columns
 pub mod Walk
 pub mod Remaining
+pub mod Stored
+pub mod Filling
+pub mod Filled

@@ -5,3 +5,5 @@ pub mod Codes
 pub mod Blocks
 pub mod Edges
 pub mod Walk
+pub mod Runs
+pub mod Sound

@@ -5,6 +5,7 @@ ghost use Rattle.codes.specs.Codes.{Known, rowOf, paramsOf, prototypeOf,
 pub mod compact_generators;
 pub mod compact_parity_checks;
 pub mod parity_iter;
+pub mod runs;
 
 use compact_parity_checks::PHI_J_K;
 use compact_parity_checks::PROTOTYPES;

@@ -15,7 +15,8 @@ use Rattle.codes.specs.Edges.{permutationColumn, columnOf}
 use Rattle.codes.specs.declared.«parity_iter».Step.the-variants.{Finished}
 use Rattle.codes.specs.Walk.{matrix, placeOf, solid, Inside, nextStep, stepOf}
 use Rattle.maths.specs.Tests.{pick}
-use Rattle.codes.proofs.Codes.{Small, sized, block-small}
+use Rattle.codes.proofs.Codes.{sized, block-small}
+use Rattle.codes.specs.Sound.{Small}
 use Rattle.codes.proofs.Columns.{column-inside}
 use Rattle.codes.proofs.Walk.{step-in}
 use Rattle.codes.proofs.parity_iter.ParityIter.step.Statement.{statement}

@@ -1,0 +1,13 @@
+use mathlib.Core.Path.{_≡_, refl}
+use native.Mathlib.Omega.{arith}
+use native.Mathlib.Nat.{mul-le-mul-right}
+use borrow.Author.Needs.{needs}
+use Rattle.codes.proofs.runs.times.Statement.{statement}
+use Rattle.codes.proofs.runs.times.Tie as tie
+
+pub times-spec : {M : Type 1} → statement M
+times-spec =
+    tie.close
+    (tie.spec
+    (λ c. omega (arith, mul-le-mul-right {m = c .args .j} {n = 3} (c .args .q) (omega arith)))
+    (λ c. (refl, omega (arith, mul-le-mul-right {m = c .args .j} {n = 3} (c .args .q) (omega arith)))))
