@@ -6,3 +6,4 @@ pub mod Remaining
 pub mod Stored
 pub mod Filling
 pub mod Filled
+pub mod Flat

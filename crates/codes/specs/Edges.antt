@@ -2,8 +2,9 @@
 use mathlib.Core.Bool.{Bool, true, false}
 use mathlib.Core.List.{List, [], _∷_, flatMap}
 use Prim.Native.Nat.{ℕ, _+_, _*_, _/_, _%_}
+use lib.Dec.{ltb}
 use lib.ListN.{getD}
-use Rattle.maths.specs.Tests.{pick}
+use Rattle.maths.specs.Tests.{pick, both}
 use Rattle.maths.specs.Lists.{span}
 use Rattle.codes.specs.declared.«parity_iter».Place.{Place}
 use Rattle.codes.specs.declared.«parity_iter».Block.{Block}
@@ -18,6 +19,10 @@ pub record Edge : Type 0 where
 
 abbrev pub edge : ℕ → ℕ → Edge
 edge a v = record { check = a; bit = v }
+
+-- the edge is between one of m checks and one of n bits
+abbrev pub inRange : ℕ → ℕ → Edge → Bool
+inRange m n e = both (ltb (e .check) m) (ltb (e .bit) n)
 
 -- "Identity block: column (i + value) mod M."
 abbrev pub identityColumn : ℕ → ℕ → ℕ → ℕ

@@ -7,3 +7,4 @@ pub mod Edges
 pub mod Walk
 pub mod Runs
 pub mod Sound
+pub mod Equations

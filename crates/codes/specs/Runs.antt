@@ -3,10 +3,10 @@ use mathlib.Core.Bool.{Bool, true, false}
 use mathlib.Core.List.{List, [], _∷_, _++_, flatMap}
 use mathlib.Core.Path.{_≡_}
 use Prim.Native.Nat.{ℕ, zero, suc, _+_, _-_, _*_, _/_, _%_, _<_}
-use lib.Dec.{eqb}
+use lib.Dec.{eqb, leb}
 use lib.ListN.{length, getD, replicate}
 use lib.Seq.{sets}
-use Rattle.maths.specs.Tests.{pick}
+use Rattle.maths.specs.Tests.{pick, both}
 use Rattle.maths.specs.Lists.{span}
 use Rattle.codes.specs.declared.«parity_iter».Place.{Place}
 use Rattle.codes.specs.declared.«parity_iter».Block.{Block}
@@ -27,6 +27,10 @@ run a v l = record { check = a; bit = v; size = l }
 
 unfoldable pub runEdges : Run → List Edge
 runEdges r = span (λ i. edge (r .check + i) (r .bit + i)) 0 (r .size)
+
+-- the run lies within m checks and n bits
+abbrev pub within : ℕ → ℕ → Run → Bool
+within m n r = both (leb (r .check + r .size) m) (leb (r .bit + r .size) n)
 
 -- size edges from check a on, whose bits are v, .., v + size - 1 turned by turn
 unfoldable pub turned : ℕ → ℕ → ℕ → ℕ → List Run

@@ -4,6 +4,7 @@ ghost use Rattle.codes.specs.Codes.{Known, rowOf, paramsOf, prototypeOf,
 
 pub mod compact_generators;
 pub mod compact_parity_checks;
+pub mod meets;
 pub mod parity_iter;
 pub mod runs;
 

@@ -1,23 +1,36 @@
--- Laws of spans and of flattened lists. Assumes nothing.
-use mathlib.Core.Path.{_≡_, refl, sym, ap, _∙_}
-use mathlib.Core.List.{List, [], _∷_, _++_, flatMap, append-assoc}
-use Prim.Native.Nat.{ℕ, zero, suc, _+_, _<_}
-use native.Mathlib.Nat.{add-zero, zero-add, add-suc, suc-add}
+-- Lists that are counted up, and lists put together from lists. Assumes nothing.
+use mathlib.Core.Bool.{Bool}
+use mathlib.Core.List.{List, [], _∷_, _++_, append-assoc, flatMap, head-eq-of-cons-eq, tail-eq-of-cons-eq}
+use mathlib.Core.Path.{_≡_, refl, ap}
+use Prim.Native.Nat.{ℕ, zero, suc, _+_, _-_, _*_, _≤_, _<_}
+use native.Mathlib.Nat.{add-zero, zero-add, add-suc, suc-add, suc-mul, zero-mul, le-refl, le-of-suc-le-suc, not-suc-le-zero}
+use native.Mathlib.Numerals.{add-one}
 use native.Mathlib.Omega.{arith}
+use lib.Dec.{T}
 use lib.ListN.{length, length-append}
-use Rattle.maths.specs.Lists.{span}
+use Rattle.maths.specs.Tests.{all}
+use Rattle.maths.specs.Lists.{span, fold}
+use Rattle.maths.proofs.Tests.{both-left, both-right}
 
 module _ {A : Type 0} where
+  -- a span is the spans of its two parts
+  pub span-split : (f : ℕ → A) (s m n : ℕ) → span f s (m + n) ≡ span f s m ++ span f (s + m) n
+  unfolding span
+  span-split f s zero n = rw (zero-add, add-zero)
+  span-split f s (suc m) n = rw (suc-add, span-split f (suc s) m n, suc-add, add-suc)
+
+  -- two spans with the same elements
+  pub span-ext : (f g : ℕ → A) (s u n : ℕ) → ((k : ℕ) → k < n → f (s + k) ≡ g (u + k)) → span f s n ≡ span g u n
+  unfolding span
+  span-ext f g s u zero h = refl
+  span-ext f g s u (suc n) h =
+      let a = rw (add-zero s, add-zero u) at (h zero (omega arith)) in
+      rw (a, span-ext f g (suc s) (suc u) n (λ k l. rw (suc-add s k, ← add-suc s k, suc-add u k, ← add-suc u k) (h (suc k) (omega arith))))
+
   pub span-length : (f : ℕ → A) (s n : ℕ) → length (span f s n) ≡ n
   unfolding span
   span-length f s zero = refl
   span-length f s (suc n) = ap suc (span-length f (suc s) n)
-
-  -- a span is its first part and the rest
-  pub span-split : (f : ℕ → A) (s a b : ℕ) → span f s (a + b) ≡ span f s a ++ span f (s + a) b
-  unfolding span
-  span-split f s zero b = rw (zero-add, add-zero)
-  span-split f s (suc a) b = rw (suc-add, span-split f (suc s) a b, suc-add, add-suc)
 
   -- its first element and the rest
   pub span-first : (f : ℕ → A) (s n m : ℕ) → n ≡ suc m → span f s n ≡ f s ∷ span f (suc s) m
@@ -28,18 +41,35 @@ module _ {A : Type 0} where
   unfolding span
   span-none f s n e = rw e
 
-  -- two spans are equal by their elements
-  pub span-ext : (f g : ℕ → A) (s u n : ℕ) → ((k : ℕ) → k < n → f (s + k) ≡ g (u + k)) → span f s n ≡ span g u n
+  -- spans that are the same list have the same elements
+  span-at : (f g : ℕ → A) (s n : ℕ) → span f s n ≡ span g s n → (k : ℕ) → k < n → f (s + k) ≡ g (s + k)
   unfolding span
-  span-ext f g s u zero h = refl
-  span-ext f g s u (suc n) h =
-      let a = h zero (omega arith) in
-      let b = rw (add-zero, add-zero) at a in
-      let c : (k : ℕ) → k < n → f (suc s + k) ≡ g (suc u + k) =
-      λ k l. rw (suc-add, ← add-suc, suc-add, ← add-suc) (h (suc k) (omega arith)) in
-      rw (b, span-ext f g (suc s) (suc u) n c)
+  span-at f g s zero e k l = absurd (not-suc-le-zero l)
+  span-at f g s (suc n) e zero l = rw add-zero (head-eq-of-cons-eq e)
+  span-at f g s (suc n) e (suc k) l =
+      rw (add-suc s k, ← suc-add s k) (span-at f g (suc s) n (tail-eq-of-cons-eq e) k (le-of-suc-le-suc l))
+
+  pub span-same : (f g : ℕ → A) (n : ℕ) → span f 0 n ≡ span g 0 n → (k : ℕ) → k < n → f k ≡ g k
+  span-same f g n e k l = rw zero-add at (span-at f g 0 n e k l)
+
+-- and so have tables by three numbers
+pub table-same : {A : Type 0} (f g : ℕ → ℕ → ℕ → A) (l m n : ℕ)
+    → span (λ i. span (λ j. span (f i j) 0 n) 0 m) 0 l ≡ span (λ i. span (λ j. span (g i j) 0 n) 0 m) 0 l
+    → (i j k : ℕ) → i < l → j < m → k < n → f i j k ≡ g i j k
+table-same f g l m n e i j k hi hj hk =
+    let a = span-same (λ i. span (λ j. span (f i j) 0 n) 0 m) (λ i. span (λ j. span (g i j) 0 n) 0 m) l e i hi in
+    let b = span-same (λ j. span (f i j) 0 n) (λ j. span (g i j) 0 n) m a j hj in
+    span-same (f i j) (g i j) n b k hk
 
 module _ {A B : Type 0} where
+  -- two functions that are the same where a test holds, as it does of every element
+  pub flatMap-ext : (test : A → Bool) (f g : A → List B) (xs : List A) → T (all test xs)
+      → ((x : A) → T (test x) → f x ≡ g x) → flatMap f xs ≡ flatMap g xs
+  unfolding flatMap
+  flatMap-ext test f g [] t h = refl
+  flatMap-ext test f g (x ∷ xs) t h =
+      rw (h x (both-left (test x) (all test xs) t), flatMap-ext test f g xs (both-right (test x) (all test xs) t) h)
+
   pub flatMap-cons : (f : A → List B) (x : A) (xs : List A) → flatMap f (x ∷ xs) ≡ f x ++ flatMap f xs
   unfolding flatMap
   flatMap-cons f x xs = refl
@@ -52,3 +82,56 @@ module _ {A B : Type 0} where
   unfolding flatMap
   flatMap-append f [] ys = refl
   flatMap-append f (x ∷ xs) ys = rw (flatMap-append f xs ys, append-assoc)
+
+  -- lists of one length
+  pub flatMap-length : (f : A → List B) (n : ℕ) (xs : List A) → ((x : A) → length (f x) ≡ n)
+      → length (flatMap f xs) ≡ length xs * n
+  unfolding flatMap
+  flatMap-length f n [] h = omega arith
+  flatMap-length f n (x ∷ xs) h =
+      omega (arith, length-append (f x) (flatMap f xs), h x, flatMap-length f n xs h, suc-mul (length xs) n)
+
+  -- pieces of length b, one after the other
+  pub flatMap-span : (F : A → List B) (f : ℕ → A) (g : ℕ → B) (b s u : ℕ)
+      → ((j : ℕ) → u ≤ j → j < u + s → F (f j) ≡ span g (j * b) b) → flatMap F (span f u s) ≡ span g (u * b) (s * b)
+  unfolding flatMap span
+  flatMap-span F f g b zero u h = rw zero-mul
+  flatMap-span F f g b (suc s) u h =
+      let e : suc s * b ≡ b + s * b = omega (arith, suc-mul s b) in
+      let next = flatMap-span F f g b s (suc u) (λ j l m. h j (omega arith) (omega arith)) in
+      rw (h u (le-refl u) (omega arith), next, suc-mul u b, e, span-split g (u * b) b (s * b))
+
+pub flatMap-flatMap : {A B C : Type 0} (g : B → List C) (f : A → List B) (xs : List A)
+    → flatMap g (flatMap f xs) ≡ flatMap (λ x. flatMap g (f x)) xs
+unfolding flatMap
+flatMap-flatMap g f [] = refl
+flatMap-flatMap g f (x ∷ xs) = rw (flatMap-append g (f x) (flatMap f xs), flatMap-flatMap g f xs)
+
+-- folds: over two lists, over a span from its first element on, and over what is left of it
+module _ {A S : Type 0} (step : A → S → S) where
+  pub fold-append : (xs ys : List A) (s : S) → fold step (xs ++ ys) s ≡ fold step ys (fold step xs s)
+  unfolding fold
+  fold-append [] ys s = refl
+  fold-append (x ∷ xs) ys s = fold-append xs ys (step x s)
+
+  pub fold-cons : (x : A) (xs : List A) (s : S) → fold step (x ∷ xs) s ≡ fold step xs (step x s)
+  unfolding fold
+  fold-cons x xs s = refl
+
+  pub fold-nil : (s : S) → fold step [] s ≡ s
+  unfolding fold
+  fold-nil s = refl
+
+  -- a loop over a span, at turn i of n: inv says that folding what is left over the present state gives all
+  module _ (f : ℕ → A) (n i : ℕ) (s : S) {all : S} (inv : fold step (span f i (n - i)) s ≡ all) where
+    pub span-turn : {s′ : S} → i < n → s′ ≡ step (f i) s → fold step (span f (i + 1) (n - (i + 1))) s′ ≡ all
+    unfolding fold span
+    span-turn h t =
+        let e : n - i ≡ suc (n - (i + 1)) = omega arith in
+        rw (add-one i, t) (rw (e, add-one) at inv)
+
+    pub span-end : n ≤ i → s ≡ all
+    unfolding fold span
+    span-end h =
+        let e : n - i ≡ 0 = omega arith in
+        rw e at inv

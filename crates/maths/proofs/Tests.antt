@@ -1,13 +1,15 @@
 -- What a test that is computed over a whole list, or over every number below a bound, says at each place. Assumes nothing.
 use mathlib.Core.Bool.{Bool, true, false}
 use mathlib.Core.Logic.{⊎-elim}
-use mathlib.Core.Path.{_≡_, sym, subst}
-use mathlib.Core.List.{List, [], _∷_}
-use Prim.Native.Nat.{ℕ, zero, suc, _<_}
-use native.Mathlib.Nat.{le-of-suc-le-suc, not-suc-le-zero, eq-or-lt-of-le}
+use mathlib.Core.Path.{_≡_, refl, sym, subst}
+use mathlib.Core.List.{List, [], _∷_, _++_, flatMap}
+use Prim.Native.Nat.{ℕ, zero, suc, _+_, _<_}
+use native.Mathlib.Nat.{add-zero, add-suc, suc-add, le-of-suc-le-suc, not-suc-le-zero, eq-or-lt-of-le}
+use native.Mathlib.Omega.{arith}
 use lib.Dec.{T}
 use lib.ListN.{length, getD}
 use Rattle.maths.specs.Tests.{pick, both, all, below}
+use Rattle.maths.specs.Lists.{span}
 
 pub both-left : (a b : Bool) → T (both a b) → T a
 both-left true b t = tt
@@ -16,6 +18,18 @@ both-left false b t = t
 pub both-right : (a b : Bool) → T (both a b) → T b
 both-right true b t = t
 both-right false b t = absurd t
+
+pub both-make : (a b : Bool) → T a → T b → T (both a b)
+both-make true b s t = t
+both-make false b s t = absurd s
+
+pub both-true : (a : Bool) → both a true ≡ a
+both-true true = refl
+both-true false = refl
+
+pub both-false : (a : Bool) → both a false ≡ false
+both-false true = refl
+both-false false = refl
 
 -- of the element at an index below the length
 pub all-at : {A : Type 0} (f : A → Bool) (d : A) (xs : List A) → T (all f xs) → (k : ℕ) → k < length xs → T (f (getD xs k d))
@@ -40,3 +54,37 @@ below-at (suc n) f t k h =
 pub pick-both {ℓ} : {A : Type ℓ} (P : A → Type 0) (t : Bool) (a b : A) → P a → P b → P (pick t a b)
 pick-both P true a b p q = p
 pick-both P false a b p q = q
+
+-- a test that is made of two, of every element
+module _ {A : Type 0} (f g : A → Bool) where
+  pub all-left : (xs : List A) → T (all (λ x. both (f x) (g x)) xs) → T (all f xs)
+  all-left [] t = tt
+  all-left (x ∷ xs) t =
+      let h = all (λ y. both (f y) (g y)) xs in
+      both-make (f x) (all f xs) (both-left (f x) (g x) (both-left (both (f x) (g x)) h t)) (all-left xs (both-right (both (f x) (g x)) h t))
+
+  pub all-right : (xs : List A) → T (all (λ x. both (f x) (g x)) xs) → T (all g xs)
+  all-right [] t = tt
+  all-right (x ∷ xs) t =
+      let h = all (λ y. both (f y) (g y)) xs in
+      both-make (g x) (all g xs) (both-right (f x) (g x) (both-left (both (f x) (g x)) h t)) (all-right xs (both-right (both (f x) (g x)) h t))
+
+pub all-append : {A : Type 0} (f : A → Bool) (xs ys : List A) → T (all f xs) → T (all f ys) → T (all f (xs ++ ys))
+all-append f [] ys s t = t
+all-append f (x ∷ xs) ys s t =
+    both-make (f x) (all f (xs ++ ys)) (both-left (f x) (all f xs) s) (all-append f xs ys (both-right (f x) (all f xs) s) t)
+
+-- of every element of a span, and of a list put together from lists
+pub all-span : {A : Type 0} (f : A → Bool) (g : ℕ → A) (s n : ℕ) → ((k : ℕ) → k < n → T (f (g (s + k)))) → T (all f (span g s n))
+unfolding span
+all-span f g s zero h = tt
+all-span f g s (suc n) h =
+    both-make (f (g s)) (all f (span g (suc s) n)) (rw add-zero at (h zero (omega arith)))
+    (all-span f g (suc s) n (λ k l. rw (suc-add s k, ← add-suc s k) (h (suc k) (omega arith))))
+
+pub all-flatMap : {A B : Type 0} (f : A → Bool) (g : B → Bool) (h : A → List B) (xs : List A) → T (all f xs) → ((x : A) → T (f x) → T (all g (h x)))
+    → T (all g (flatMap h xs))
+unfolding flatMap
+all-flatMap f g h [] t k = tt
+all-flatMap f g h (x ∷ xs) t k =
+    all-append g (h x) (flatMap h xs) (k x (both-left (f x) (all f xs) t)) (all-flatMap f g h xs (both-right (f x) (all f xs) t) k)

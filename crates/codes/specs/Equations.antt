@@ -1,0 +1,57 @@
+-- The parity equations of a code. Assumes nothing.
+use mathlib.Core.Bool.{Bool, true, false, not}
+use mathlib.Core.List.{List, [], _∷_, _++_, flatMap}
+use mathlib.Core.Path.{_≡_}
+use Prim.Native.Nat.{ℕ, zero, suc, _+_, _*_, _%_, _≤_, _<_}
+use lib.Dec.{eqb, leb}
+use lib.ListN.{length, getD}
+use Rattle.maths.specs.Tests.{pick, both, below}
+use Rattle.maths.specs.Lists.{span}
+use Rattle.maths.specs.Sums.{sumL, Even}
+use Rattle.maths.specs.Bits.{bitAt}
+use Rattle.codes.specs.declared.meets.Met.{Met}
+use Rattle.codes.specs.Answers.{test, firstOf, unlike}
+use Rattle.codes.specs.Codes.{known, rowOf, bitsIn, checksIn}
+use Rattle.codes.specs.Edges.{Edge, edges}
+
+-- the far ends of the edges whose near end is a, each as often as it has edges, in order
+abbrev pub ends : (Edge → ℕ) → (Edge → ℕ) → List Edge → ℕ → List ℕ
+ends near far [] a = []
+ends near far (e ∷ es) a = pick (eqb (near e) a) (far e ∷ ends near far es a) (ends near far es a)
+
+abbrev pub checkOf : Edge → ℕ
+checkOf e = e .check
+
+abbrev pub bitOf : Edge → ℕ
+bitOf e = e .bit
+
+-- the bits of a check, and the checks of a bit
+abbrev pub bitsOf : List Edge → ℕ → List ℕ
+bitsOf = ends checkOf bitOf
+
+abbrev pub checksOf : List Edge → ℕ → List ℕ
+checksOf = ends bitOf checkOf
+
+-- "A parity equation is the set of edges of one check; it holds if the sum of its bits, each as often as it has edges, is even."
+abbrev pub par : List Edge → (ℕ → ℕ) → ℕ → ℕ
+par es w a = sumL (bitsOf es a) w
+
+abbrev pub Hold : List Edge → ℕ → (ℕ → ℕ) → Type 0
+Hold es m w = (a : ℕ) → a < m → Even (par es w a)
+
+-- the word meets every equation of the code: "There are n+p-k equations"
+abbrev pub Meets : ℕ → (ℕ → ℕ) → Type 0
+Meets code w = Hold (edges code) (checksIn code) w
+
+-- the same as a test
+abbrev pub holds : List Edge → ℕ → (ℕ → ℕ) → Bool
+holds es m w = below m (λ a. eqb (par es w a % 2) 0)
+
+unfoldable pub meetsTest : ℕ → (ℕ → ℕ) → Bool
+meetsTest code w = holds (edges code) (checksIn code) w
+
+-- the answer to whether a word of (n+p)/8 bytes meets every equation
+unfoldable pub metOf : ℕ → List ℕ → Met
+metOf code word =
+    let answer = firstOf (test (not (known code)) 1 ∷ test (unlike (length word) (rowOf code .«output_len»)) 2 ∷ []) in
+    record { answer = answer; met = both (eqb answer 0) (meetsTest code (bitAt word)) }
