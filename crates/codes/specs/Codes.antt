@@ -23,6 +23,13 @@ Known code = code < codes
 abbrev pub known : ℕ → Bool
 known code = ltb code codes
 
+-- TC128, TC256 and TC512, of which every bit is sent, stand first
+abbrev pub tcCodes : ℕ
+tcCodes = 3
+
+abbrev pub TC : ℕ → Type 0
+TC code = code < tcCodes
+
 -- a row: n, k, punctured bits p, block size M, circulant size b, edges E, and the four lengths that follow from them
 abbrev pub row : ℕ → ℕ → ℕ → ℕ → ℕ → ℕ → CodeParams
 row n k p m b e =

@@ -22,8 +22,8 @@ digits-eqb m p q {s} {t} hs ht = go (eqb p q) refl (eqb s t) refl
         ne-eqb (p * m + s) (q * m + t) (λ z. eqb-false p q e (sym (digits-div p hs) ∙ ap (λ (n : ℕ). n / m) z ∙ digits-div q ht))
 
 -- what is turned alike was alike
-pub turn-back : (m x y t : ℕ) → t < m → (x + t) % m ≡ (y + t) % m → x % m ≡ y % m
-turn-back m x y t h e = sym (back x) ∙ ap (λ (n : ℕ). (n + (m - t)) % m) e ∙ back y
+pub turn-alike : (m x y t : ℕ) → t < m → (x + t) % m ≡ (y + t) % m → x % m ≡ y % m
+turn-alike m x y t h e = sym (back x) ∙ ap (λ (n : ℕ). (n + (m - t)) % m) e ∙ back y
   where
     back : (z : ℕ) → ((z + t) % m + (m - t)) % m ≡ z % m
     back z =

@@ -1,4 +1,10 @@
 pub mod Tests
+pub mod Search
 pub mod Lists
+pub mod Sums
 pub mod Digits
+pub mod Turns
+pub mod Ones
+pub mod Bytes
+pub mod Distance
 pub mod Budget

@@ -1,13 +1,13 @@
 -- Lists that are counted up, and lists put together from lists. Assumes nothing.
 use mathlib.Core.Bool.{Bool}
-use mathlib.Core.List.{List, [], _∷_, _++_, append-assoc, flatMap, head-eq-of-cons-eq, tail-eq-of-cons-eq}
-use mathlib.Core.Path.{_≡_, refl, ap}
+use mathlib.Core.List.{List, [], _∷_, _++_, map, append-assoc, flatMap, head-eq-of-cons-eq, tail-eq-of-cons-eq}
+use mathlib.Core.Path.{_≡_, refl, sym, ap, _∙_}
 use Prim.Native.Nat.{ℕ, zero, suc, _+_, _-_, _*_, _≤_, _<_}
 use native.Mathlib.Nat.{add-zero, zero-add, add-suc, suc-add, suc-mul, zero-mul, le-refl, le-of-suc-le-suc, not-suc-le-zero}
 use native.Mathlib.Numerals.{add-one}
 use native.Mathlib.Omega.{arith}
 use lib.Dec.{T}
-use lib.ListN.{length, length-append}
+use lib.ListN.{length, getD, length-append}
 use Rattle.maths.specs.Tests.{all}
 use Rattle.maths.specs.Lists.{span, fold}
 use Rattle.maths.proofs.Tests.{both-left, both-right}
@@ -40,6 +40,17 @@ module _ {A : Type 0} where
   pub span-none : (f : ℕ → A) (s n : ℕ) → n ≡ 0 → span f s n ≡ []
   unfolding span
   span-none f s n e = rw e
+
+  pub getD-span : (f : ℕ → A) (s n i : ℕ) (d : A) → i < n → getD (span f s n) i d ≡ f (s + i)
+  unfolding span
+  getD-span f s zero i d h = absurd (not-suc-le-zero h)
+  getD-span f s (suc n) zero d h = ap f (sym (add-zero s))
+  getD-span f s (suc n) (suc i) d h = getD-span f (suc s) n i d (le-of-suc-le-suc h) ∙ ap f (suc-add s i ∙ sym (add-suc s i))
+
+  pub map-span : {B : Type 0} (f : ℕ → A) (h : A → B) (s n : ℕ) → map h (span f s n) ≡ span (λ t. h (f t)) s n
+  unfolding span
+  map-span f h s zero = refl
+  map-span {B} f h s (suc n) = ap {B = List B} (λ l. h (f s) ∷ l) (map-span f h (suc s) n)
 
   -- spans that are the same list have the same elements
   span-at : (f g : ℕ → A) (s n : ℕ) → span f s n ≡ span g s n → (k : ℕ) → k < n → f (s + k) ≡ g (s + k)

@@ -6,7 +6,7 @@ use mathlib.Core.List.{List, [], _∷_, _++_, flatMap}
 use Prim.Native.Nat.{ℕ, zero, suc, _+_, _<_}
 use native.Mathlib.Nat.{add-zero, add-suc, suc-add, le-of-suc-le-suc, not-suc-le-zero, eq-or-lt-of-le}
 use native.Mathlib.Omega.{arith}
-use lib.Dec.{T}
+use lib.Dec.{T, eqb, eqb→eq}
 use lib.ListN.{length, getD}
 use Rattle.maths.specs.Tests.{pick, both, all, below}
 use Rattle.maths.specs.Lists.{span}
@@ -49,6 +49,10 @@ below-at (suc n) f t k h =
     ⊎-elim (λ (e : k ≡ n). subst (λ (j : ℕ). T (f j)) (sym e) (both-left (f n) (below n f) t))
     (λ (l : k < n). below-at n f (both-right (f n) (below n f) t) k l)
     (eq-or-lt-of-le (le-of-suc-le-suc h))
+
+-- a computed equation at every number below a bound
+pub below-eq : (n : ℕ) (f g : ℕ → ℕ) → T (below n (λ i. eqb (f i) (g i))) → (i : ℕ) → i < n → f i ≡ g i
+below-eq n f g t i h = eqb→eq (f i) (g i) (below-at n (λ i. eqb (f i) (g i)) t i h)
 
 -- a property of both is one of the picked
 pub pick-both {ℓ} : {A : Type ℓ} (P : A → Type 0) (t : Bool) (a b : A) → P a → P b → P (pick t a b)

@@ -1,5 +1,9 @@
 pub mod Tests
+pub mod Search
 pub mod Lists
 pub mod Sums
+pub mod Ones
 pub mod Bits
+pub mod Bytes
+pub mod Distance
 pub mod Budget

@@ -1,0 +1,94 @@
+-- Laws of the bits of byte strings. Assumes nothing.
+use mathlib.Core.Path.{_≡_, sym, ap, _∙_}
+use Prim.Native.Nat.{ℕ, zero, suc, _+_, _-_, _*_, _/_, _%_, _^_, _≤_, _<_}
+use mathlib.Core.List.{List, _++_}
+use native.Mathlib.Nat.{zero-add, mod-lt, mod-eq-of-lt, div-one, div-add-mod', div-div-eq-div-mul, div-lt-iff-lt-mul}
+use native.Mathlib.Decide.{decLt}
+use native.Mathlib.Omega.{arith}
+use lib.Arith.{digits-lt, digits-div, digits-mod}
+use lib.ListN.{length, getD, length-append, List·getD-append}
+use lib.Seq.{ext-getD, getD-append-add}
+use Rattle.maths.specs.Sums.{sumN}
+use Rattle.maths.specs.Bits.{bitAt}
+use Rattle.maths.specs.Bytes.{Bytes, byte, pack}
+use Rattle.maths.proofs.Lists.{getD-span, span-length}
+use Rattle.maths.proofs.Sums.{sumN-ext}
+
+pub bitAt-low : (s : List ℕ) (v : ℕ) → bitAt s v < 2
+bitAt-low s v = mod-lt (getD s (v / 8) 0 / 2 ^ (7 - v % 8)) (omega arith)
+
+-- ---- the bytes of given bits
+pub length-pack : (f : ℕ → ℕ) (n : ℕ) → length (pack f n) ≡ n
+unfolding pack
+length-pack f n = span-length (byte f) 0 n
+
+byte-low : (f : ℕ → ℕ) (j : ℕ) → byte f j < 256
+byte-low f j = omega arith
+
+pub bytes-pack : (f : ℕ → ℕ) (n : ℕ) → Bytes (pack f n)
+unfolding pack
+bytes-pack f n i h = rw (getD-span (byte f) 0 n i 0 (rw (span-length (byte f) 0 n) at h)) (byte-low f (0 + i))
+
+byte-bit : (f : ℕ → ℕ) (j s : ℕ) → s < 8 → byte f j / 2 ^ (7 - s) % 2 ≡ f (j * 8 + s) % 2
+byte-bit f j zero h = omega arith
+byte-bit f j (suc zero) h = omega arith
+byte-bit f j (suc (suc zero)) h = omega arith
+byte-bit f j (suc (suc (suc zero))) h = omega arith
+byte-bit f j (suc (suc (suc (suc zero)))) h = omega arith
+byte-bit f j (suc (suc (suc (suc (suc zero))))) h = omega arith
+byte-bit f j (suc (suc (suc (suc (suc (suc zero)))))) h = omega arith
+byte-bit f j (suc (suc (suc (suc (suc (suc (suc zero))))))) h = omega arith
+byte-bit f j (suc (suc (suc (suc (suc (suc (suc (suc s)))))))) h = absurd (omega arith)
+
+pub bitAt-pack : (f : ℕ → ℕ) (n i : ℕ) → i < n * 8 → bitAt (pack f n) i ≡ f i % 2
+unfolding pack
+bitAt-pack f n i h =
+    ap (λ (x : ℕ). x / 2 ^ (7 - i % 8) % 2)
+    (getD-span (byte f) 0 n (i / 8) 0 (div-lt-iff-lt-mul (omega arith) .1 h) ∙ ap (byte f) (zero-add (i / 8)))
+    ∙ byte-bit f (i / 8) (i % 8) (mod-lt i (omega arith)) ∙ ap (λ (x : ℕ). f x % 2) (div-add-mod' i 8)
+
+-- ---- a byte is made of its bits
+half : (x m : ℕ) → x / m ≡ x / (m * 2) * 2 + x / m % 2
+half x m = sym (div-add-mod' (x / m) 2) ∙ ap (λ (y : ℕ). y * 2 + x / m % 2) (div-div-eq-div-mul x m 2)
+
+halves : (x q₁ q₂ q₃ q₄ q₅ q₆ q₇ b₀ b₁ b₂ b₃ b₄ b₅ b₆ b₇ : ℕ) → x ≡ q₁ * 2 + b₀ → q₁ ≡ q₂ * 2 + b₁ → q₂ ≡ q₃ * 2 + b₂ → q₃ ≡ q₄ * 2 + b₃
+    → q₄ ≡ q₅ * 2 + b₄ → q₅ ≡ q₆ * 2 + b₅ → q₆ ≡ q₇ * 2 + b₆ → q₇ ≡ b₇
+    → 0 + b₇ * 128 + b₆ * 64 + b₅ * 32 + b₄ * 16 + b₃ * 8 + b₂ * 4 + b₁ * 2 + b₀ * 1 ≡ x
+halves x q₁ q₂ q₃ q₄ q₅ q₆ q₇ b₀ b₁ b₂ b₃ b₄ b₅ b₆ b₇ e₀ e₁ e₂ e₃ e₄ e₅ e₆ e₇ = omega arith
+
+pub bits-byte : (x : ℕ) → x < 256 → sumN 8 (λ i. x / 2 ^ (7 - i) % 2 * 2 ^ (7 - i)) ≡ x
+bits-byte x h =
+    halves x (x / 2) (x / 4) (x / 8) (x / 16) (x / 32) (x / 64) (x / 128) (x / 1 % 2) (x / 2 % 2) (x / 4 % 2) (x / 8 % 2) (x / 16 % 2) (x / 32 % 2)
+    (x / 64 % 2) (x / 128 % 2) (sym (div-one x) ∙ half x 1) (half x 2) (half x 4) (half x 8) (half x 16) (half x 32) (half x 64)
+    (sym (mod-eq-of-lt {n = x / 128} {m = 2} (omega arith)))
+
+-- two byte strings of one length with the same bits are equal
+bit-of : (s : List ℕ) (i j : ℕ) → j < 8 → bitAt s (i * 8 + j) ≡ getD s i 0 / 2 ^ (7 - j) % 2
+bit-of s i j h = rw (digits-div i {m = 8} {r = j} h, digits-mod i {m = 8} {r = j} h)
+
+pub bits-same : (s t : List ℕ) → length s ≡ length t → Bytes s → Bytes t → ((v : ℕ) → v < length s * 8 → bitAt s v ≡ bitAt t v) → s ≡ t
+bits-same s t len hs ht same =
+    ext-getD 0 s t len (λ i h.
+    sym (bits-byte (getD s i 0) (hs i h))
+    ∙ sumN-ext 8 (λ j. getD s i 0 / 2 ^ (7 - j) % 2 * 2 ^ (7 - j)) (λ j. getD t i 0 / 2 ^ (7 - j) % 2 * 2 ^ (7 - j))
+    (λ j l. ap (λ (x : ℕ). x * 2 ^ (7 - j)) (sym (bit-of s i j l) ∙ same (i * 8 + j) (digits-lt h l) ∙ bit-of t i j l))
+    ∙ bits-byte (getD t i 0) (ht i (rw (← len) h)))
+
+-- ---- the bits of two strings put together
+pub bitAt-left : (s t : List ℕ) (v : ℕ) → v < length s * 8 → bitAt (s ++ t) v ≡ bitAt s v
+bitAt-left s t v h = rw (List·getD-append s t 0 (v / 8) (omega arith))
+
+pub bitAt-right : (s t : List ℕ) (v : ℕ) → length s * 8 ≤ v → bitAt (s ++ t) v ≡ bitAt t (v - length s * 8)
+bitAt-right s t v h =
+    let e : v / 8 ≡ length s + (v - length s * 8) / 8 = omega arith in
+    let f : v % 8 ≡ (v - length s * 8) % 8 = omega arith in
+    rw (e, f, getD-append-add s t ((v - length s * 8) / 8) 0)
+
+pub bytes-append : (s t : List ℕ) → Bytes s → Bytes t → Bytes (s ++ t)
+bytes-append s t hs ht i h = go (decLt i (length s))
+  where
+    go : Dec (i < length s) → getD (s ++ t) i 0 < 256
+    go (yes l) = rw (List·getD-append s t 0 i l) (hs i l)
+    go (no l) =
+        let e : i ≡ length s + (i - length s) = omega arith in
+        rw (e, getD-append-add s t (i - length s) 0) (ht (i - length s) (omega (arith, length-append s t)))

@@ -1,0 +1,6 @@
+pub mod Circulants
+pub mod Counts
+pub mod Ccsds
+pub mod Reading
+pub mod Frames
+pub mod Generators
