@@ -8,13 +8,13 @@ use lib.Dec.{T, ltb, leb, eqb, ltb→lt, leb→le, eqb→eq}
 use lib.ListN.{getD}
 use borrow.Author.Tests.{ltb-false}
 use Rattle.maths.specs.Tests.{pick, both, all}
-use Rattle.maths.proofs.Tests.{both-left, both-right, all-at, all-anywhere}
+use Rattle.maths.proofs.Tests.{both-left, both-right, all-at, all-anywhere, below-eq}
 use Rattle.codes.specs.declared.CodeParams.{CodeParams}
 use Rattle.codes.specs.declared.MatrixTables.{MatrixTables}
 use Rattle.codes.specs.declared.«parity_iter».Block.{Block}
 use Rattle.codes.specs.declared.«parity_iter».Block.the-variants.{Ends, Empty, Identity, Permutation}
 use Rattle.codes.specs.Tables.{prototypes}
-use Rattle.codes.specs.Codes.{Known, rows, row, rowOf, tables, tablesOf, prototypeOf}
+use Rattle.codes.specs.Codes.{codes, Known, rows, row, rowOf, bitsIn, checksIn, tables, tablesOf, prototypeOf}
 use Rattle.codes.specs.Blocks.{byteAt, blockOf}
 use Rattle.codes.specs.Sound.{Sized, Small}
 
@@ -33,6 +33,24 @@ sized code h =
       low = leb→le 16 m (both-left (leb 16 m) (both (leb m 512) (eqb (m % 4) 0)) a);
       high = leb→le m 512 (both-left (leb m 512) (eqb (m % 4) 0) b);
       four = eqb→eq (m % 4) 0 (both-right (leb m 512) (eqb (m % 4) 0) b);
+    }
+
+-- the four lengths of a row follow from its other numbers
+pub record Lengths (r : CodeParams) : Type 0 where
+  pub bit-flipping : r .«decode_bf_working_len» ≡ r .n + r .«punctured_bits»
+  pub min-sum : r .«decode_ms_working_len» ≡ 2 * r .«paritycheck_sum» + 3 * (r .n + r .«punctured_bits») - 2 * r .k
+  pub signs : r .«decode_ms_working_u8_len» ≡ (r .n + r .«punctured_bits» - r .k) / 8
+  pub output : r .«output_len» ≡ (r .n + r .«punctured_bits») / 8
+
+pub lengths : (code : ℕ) → Known code → Lengths (rowOf code)
+unfolding rows
+lengths code h =
+    record {
+      bit-flipping = below-eq codes (λ c. rowOf c .«decode_bf_working_len») bitsIn tt code h;
+      min-sum =
+      below-eq codes (λ c. rowOf c .«decode_ms_working_len») (λ c. 2 * rowOf c .«paritycheck_sum» + 3 * bitsIn c - 2 * rowOf c .k) tt code h;
+      signs = below-eq codes (λ c. rowOf c .«decode_ms_working_u8_len») (λ c. checksIn c / 8) tt code h;
+      output = below-eq codes (λ c. rowOf c .«output_len») (λ c. bitsIn c / 8) tt code h;
     }
 
 -- the tables of every code are there

@@ -1,15 +1,13 @@
 -- The codes by number: their parameters, and the tables that their matrices and generators are made of. Assumes nothing.
 use mathlib.Core.Bool.{Bool, not}
 use mathlib.Core.List.{List, [], _∷_}
-use mathlib.Core.Path.{_≡_}
-use Prim.Native.Nat.{ℕ, _+_, _-_, _*_, _/_, _%_, _≤_, _<_}
-use lib.Dec.{ltb, eqb}
-use lib.ListN.{length, getD}
-use Rattle.maths.specs.Tests.{pick}
+use Prim.Native.Nat.{ℕ, _+_, _-_, _*_, _/_, _<_}
+use lib.Dec.{ltb}
+use lib.ListN.{getD}
 use Rattle.codes.specs.declared.CodeParams.{CodeParams}
 use Rattle.codes.specs.declared.MatrixTables.{MatrixTables}
 use Rattle.codes.specs.declared.ParamsAnswer.{ParamsAnswer}
-use Rattle.codes.specs.Answers.{test, firstOf, unlike}
+use Rattle.codes.specs.Answers.{test, firstOf}
 use Rattle.codes.specs.Tables.{prototypes, thetas, phis}
 use Rattle.codes.specs.Words.{generators}
 
@@ -109,13 +107,3 @@ matrixOf code = made (rowOf code .«submatrix_size») thetas (phiOf code) (proto
 -- the generator's words of a code; none where it is not known
 abbrev pub generatorOf : ℕ → List ℕ
 generatorOf code = getD generators code []
-
--- what is left of asking for the generator's words: the answer, and the buffer
-pub record Words : Type 0 where
-  pub answer : ℕ
-  pub words : List ℕ
-
-abbrev pub generatorOutcome : ℕ → List ℕ → Words
-generatorOutcome code words =
-    let answer = firstOf (test (not (known code)) 1 ∷ test (unlike (length words) (length (generatorOf code))) 3 ∷ []) in
-    record { answer = answer; words = pick (eqb answer 0) (generatorOf code) words }
