@@ -48,7 +48,7 @@ lengths code h =
     record {
       bit-flipping = below-eq codes (λ c. rowOf c .«decode_bf_working_len») bitsIn tt code h;
       min-sum =
-      below-eq codes (λ c. rowOf c .«decode_ms_working_len») (λ c. 2 * rowOf c .«paritycheck_sum» + 3 * bitsIn c - 2 * rowOf c .k) tt code h;
+          below-eq codes (λ c. rowOf c .«decode_ms_working_len») (λ c. 2 * rowOf c .«paritycheck_sum» + 3 * bitsIn c - 2 * rowOf c .k) tt code h;
       signs = below-eq codes (λ c. rowOf c .«decode_ms_working_u8_len») (λ c. checksIn c / 8) tt code h;
       output = below-eq codes (λ c. rowOf c .«output_len») (λ c. bitsIn c / 8) tt code h;
     }
