@@ -1,16 +1,6 @@
 //! The parameters of the seven codes and every edge of `iter_paritychecks`, as the program `edges` writes them.
-use labrador_ldpc::LDPCCode;
+use compare::CODES;
 use std::io::{BufWriter, Write};
-
-const CODES: [LDPCCode; 7] = [
-    LDPCCode::TC128,
-    LDPCCode::TC256,
-    LDPCCode::TC512,
-    LDPCCode::TM1280,
-    LDPCCode::TM1536,
-    LDPCCode::TM2048,
-    LDPCCode::TM5120,
-];
 
 fn main() -> std::io::Result<()> {
     let mut out = BufWriter::new(std::io::stdout().lock());
