@@ -285,6 +285,8 @@ fn compare_all(wanted: usize) {
     println!("\n{} cases, no difference, {} s", total + refused, start.elapsed().as_secs());
 }
 
+fn sink<T>(_: T) {}
+
 /// The best time of one of two, in microseconds, of several runs that take turns.
 fn race(mut ours: impl FnMut(usize), mut theirs: impl FnMut(usize)) -> (f64, f64) {
     let mut best = (f64::MAX, f64::MAX);
@@ -321,8 +323,8 @@ fn time_decoders(i: usize, code: LDPCCode, flips: usize, name: &str) {
     let (mut o, mut p) = (vec![0; code.output_len()], vec![0; code.output_len()]);
     let (mut w, mut v) = (vec![0; code.decode_bf_working_len()], vec![0; code.decode_bf_working_len()]);
     let bf = race(
-        |t| drop(black_box(decode_bf(i, black_box(&words[t]), &mut o, &mut w, 20))),
-        |t| drop(black_box(code.decode_bf(black_box(&words[t]), &mut p, &mut v, 20))),
+        |t| sink(black_box(decode_bf(i, black_box(&words[t]), &mut o, &mut w, 20))),
+        |t| sink(black_box(code.decode_bf(black_box(&words[t]), &mut p, &mut v, 20))),
     );
     show(code, &format!("decode_bf, {name}"), bf);
     let soft: Vec<Vec<i8>> = words
@@ -336,8 +338,8 @@ fn time_decoders(i: usize, code: LDPCCode, flips: usize, name: &str) {
     let (mut w, mut v) = (vec![0i8; code.decode_ms_working_len()], vec![0i8; code.decode_ms_working_len()]);
     let (mut s, mut u) = (vec![0; code.decode_ms_working_u8_len()], vec![0; code.decode_ms_working_u8_len()]);
     let ms = race(
-        |t| drop(black_box(decode_ms(i, black_box(&soft[t]), &mut o, &mut w, &mut s, 20))),
-        |t| drop(black_box(code.decode_ms(black_box(&soft[t]), &mut p, &mut v, &mut u, 20))),
+        |t| sink(black_box(decode_ms(i, black_box(&soft[t]), &mut o, &mut w, &mut s, 20))),
+        |t| sink(black_box(code.decode_ms(black_box(&soft[t]), &mut p, &mut v, &mut u, 20))),
     );
     show(code, &format!("decode_ms i8, {name}"), ms);
 }
@@ -348,20 +350,20 @@ fn time_all() {
         let mut dice = Dice::new(7);
         let words: Vec<Vec<u8>> = (0..8).map(|_| frame(code, &mut dice)).collect();
         let (mut a, mut b) = (words.clone(), words.clone());
-        let times = race(|t| drop(black_box(encode(i, black_box(&mut a[t])))), |t| drop(black_box(code.encode(black_box(&mut b[t][..])).len())));
+        let times = race(|t| sink(black_box(encode(i, black_box(&mut a[t])))), |t| sink(black_box(code.encode(black_box(&mut b[t][..])).len())));
         show(code, "encode", times);
         let k = code.k() / 8;
         let times = race(
-            |t| drop(black_box(copy_encode(i, black_box(&words[t][..k]), &mut a[t]))),
-            |t| drop(black_box(code.copy_encode(black_box(&words[t][..k]), &mut b[t][..]).len())),
+            |t| sink(black_box(copy_encode(i, black_box(&words[t][..k]), &mut a[t]))),
+            |t| sink(black_box(code.copy_encode(black_box(&words[t][..k]), &mut b[t][..]).len())),
         );
         show(code, "copy_encode", times);
         time_decoders(i, code, 0, "clean");
         time_decoders(i, code, 3, "3 flips");
         let sum = || code.iter_paritychecks().fold(0, |s, (a, v)| (s % 65536 + a % 65536 + v % 65536) % 65536);
         assert_eq!(walk(i), sum());
-        show(code, "the walk, edge by edge", race(|_| drop(black_box(walk(black_box(i)))), |_| drop(black_box(sum()))));
-        let (fill, _) = race(|_| drop(black_box(runs(black_box(i)))), |_| ());
+        show(code, "the walk, edge by edge", race(|_| sink(black_box(walk(black_box(i)))), |_| sink(black_box(sum()))));
+        let (fill, _) = race(|_| sink(black_box(runs(black_box(i)))), |_| ());
         println!("| {code:?} | filling the list of {} runs | {fill:.2} | | |", runs(i));
     }
 }

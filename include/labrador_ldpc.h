@@ -1,0 +1,74 @@
+/* LDPC codes of CCSDS: liblabrador_ldpc.a.
+ *
+ * A code is a number: 0 TC128, 1 TC256, 2 TC512, 3 TM1280, 4 TM1536, 5 TM2048, 6 TM5120.
+ * With n, k and p the sent, data and punctured bits of a code, ldpc_params gives every length that a call asks for.
+ * Bit i of a byte string is bit 7 - i % 8 of byte i / 8.
+ *
+ * Every function answers a number:
+ *
+ *   LDPC_ACCEPTED       0   the call was carried out
+ *   LDPC_UNKNOWN_CODE   1   the code is not 0 to 6
+ *   LDPC_WRONG_READ     2   the buffer that is read has the wrong length
+ *   LDPC_WRONG_WRITTEN  3   the buffer that is written has the wrong length
+ *   LDPC_WRONG_WORKING  4   the main working buffer has the wrong length
+ *   LDPC_WRONG_SIGNS    5   the sign buffer of min-sum has the wrong length
+ *
+ * The tests run in this order, and the first that fails is the answer. A call that is refused changes no byte of any
+ * buffer; a decoder then sets *success and *iters to 0. After an accepted decode the working buffers hold zeros only.
+ *
+ * Two things cannot be checked and are the caller's: the buffers of one call do not overlap, and each length is the
+ * true length of its buffer. */
+#ifndef LABRADOR_LDPC_H
+#define LABRADOR_LDPC_H
+
+#include <stddef.h>
+#include <stdint.h>
+
+#ifdef __cplusplus
+extern "C" {
+#endif
+
+#define LDPC_ACCEPTED 0
+#define LDPC_UNKNOWN_CODE 1
+#define LDPC_WRONG_READ 2
+#define LDPC_WRONG_WRITTEN 3
+#define LDPC_WRONG_WORKING 4
+#define LDPC_WRONG_SIGNS 5
+
+#define LDPC_CODES 7
+
+/* Ten numbers: n, k, punctured_bits, submatrix_size, circulant_size, paritycheck_sum, decode_bf_working_len,
+ * decode_ms_working_len, decode_ms_working_u8_len, output_len. row_len is 10; any other is 3 and writes nothing.
+ * An unknown code is 1, tested first; with row_len 10 it leaves ten zeros. */
+uint8_t ldpc_params(size_t code, size_t *row, size_t row_len);
+
+/* The first k/8 of the n/8 bytes are the data; the others become the parity. */
+uint8_t ldpc_encode(size_t code, uint8_t *codeword, size_t codeword_len);
+
+/* Copies the k/8 bytes of data to the front of the codeword, n/8 bytes, and encodes it. */
+uint8_t ldpc_copy_encode(size_t code, const uint8_t *data, size_t data_len, uint8_t *codeword, size_t codeword_len);
+
+/* Bit flipping. input: n/8 bytes; output: output_len bytes; working: decode_bf_working_len bytes. *success becomes 1
+ * where the output meets every parity equation at the start of pass *iters, counted from 0; else it becomes 0 and
+ * *iters maxiters. The output is written in both cases. */
+uint8_t ldpc_decode_bf(size_t code, const uint8_t *input, size_t input_len, uint8_t *output, size_t output_len,
+                       uint8_t *working, size_t working_len, size_t maxiters, uint8_t *success, size_t *iters);
+
+/* Min-sum. llrs: n confidences, negative for a bit 1; output: output_len bytes; working: decode_ms_working_len
+ * numbers; working_u8: decode_ms_working_u8_len bytes. *success becomes 1 where the output meets every parity equation
+ * after pass *iters, counted from 0; else it becomes 0 and *iters maxiters. The output is written in both cases. */
+uint8_t ldpc_decode_ms_i8(size_t code, const int8_t *llrs, size_t llrs_len, uint8_t *output, size_t output_len,
+                          int8_t *working, size_t working_len, uint8_t *working_u8, size_t working_u8_len,
+                          size_t maxiters, uint8_t *success, size_t *iters);
+
+/* n/8 bytes to n confidences: -1 for a bit 1, 1 for a bit 0. */
+uint8_t ldpc_hard_to_llrs_i8(size_t code, const uint8_t *input, size_t input_len, int8_t *llrs, size_t llrs_len);
+
+/* n confidences to n/8 bytes: a bit is 1 exactly where its confidence is below 0. */
+uint8_t ldpc_llrs_to_hard_i8(size_t code, const int8_t *llrs, size_t llrs_len, uint8_t *output, size_t output_len);
+
+#ifdef __cplusplus
+}
+#endif
+
+#endif
