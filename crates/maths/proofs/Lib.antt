@@ -8,3 +8,4 @@ pub mod Ones
 pub mod Bytes
 pub mod Distance
 pub mod Budget
+pub mod Triangle
