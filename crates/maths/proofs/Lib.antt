@@ -1,11 +1,12 @@
 pub mod Tests
 pub mod Search
 pub mod Lists
+pub mod Slices
 pub mod Sums
 pub mod Digits
 pub mod Turns
 pub mod Ones
 pub mod Bytes
 pub mod Distance
-pub mod Budget
 pub mod Triangle
+pub mod Budget

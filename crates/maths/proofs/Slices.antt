@@ -1,0 +1,108 @@
+-- A list that a loop reads or rewrites from its first element on, and its largest number. Assumes nothing.
+use mathlib.Core.Bool.{Bool, true, false}
+use mathlib.Core.List.{List, [], _∷_, _++_, map, append-nil, append-assoc}
+use mathlib.Core.Path.{_≡_, refl, sym, ap, _∙_}
+use Prim.Native.Nat.{ℕ, zero, suc, _+_, _*_, _/_, _≤_, _<_, max}
+use native.Mathlib.Nat.{add-zero, zero-add, add-suc, suc-add, zero-max, le-of-suc-le-suc, not-suc-le-zero}
+use native.Mathlib.Numerals.{add-one}
+use native.Mathlib.Omega.{arith}
+use borrow.Author.Tests.{ne-eqb}
+use lib.Dec.{eqb, eqb·suc-zero}
+use lib.ListN.{length, getD, set, drop, replicate, length-append, length-drop, drop-of-length-le, List·getD-append}
+use lib.Seq.{sets, drop-cons, set-at, getD-at, ext-getD}
+use Rattle.maths.specs.Tests.{both, below}
+use Rattle.maths.specs.Lists.{span, fold, largestOf, overwrite}
+use Rattle.maths.proofs.Lists.{span-split, span-length, span-ext, getD-span}
+
+-- ---- what stands in a span
+pub span-get : {A : Type 0} (f : ℕ → A) (d : A) (n i : ℕ) → i < n → getD (span f 0 n) i d ≡ f i
+span-get f d n i h = getD-span f 0 n i d h ∙ rw zero-add
+
+-- a list with these elements
+pub span-is : (l : List ℕ) (f : ℕ → ℕ) (n : ℕ) → length l ≡ n → ((i : ℕ) → i < n → getD l i 0 ≡ f i) → l ≡ span f 0 n
+span-is l f n e h =
+    ext-getD 0 l (span f 0 n) (e ∙ sym (span-length f 0 n)) (λ i k. let j : i < n = omega arith in h i j ∙ sym (span-get f 0 n i j))
+
+pub span-again : (l : List ℕ) → span (λ i. getD l i 0) 0 (length l) ≡ l
+span-again l = sym (span-is l (λ i. getD l i 0) (length l) refl (λ i h. refl))
+
+pub span-map : (g : ℕ → ℕ) (l : List ℕ) → span (λ i. g (getD l i 0)) 0 (length l) ≡ map g l
+span-map g l = sym (span-is (map g l) _ (length l) (mapped-length l) (mapped-at l))
+  where
+    mapped-length : (l : List ℕ) → length (map g l) ≡ length l
+    mapped-length [] = refl
+    mapped-length (x ∷ l) = ap suc (mapped-length l)
+
+    mapped-at : (l : List ℕ) (i : ℕ) → i < length l → getD (map g l) i 0 ≡ g (getD l i 0)
+    mapped-at [] i h = absurd (not-suc-le-zero h)
+    mapped-at (x ∷ l) zero h = refl
+    mapped-at (x ∷ l) (suc i) h = mapped-at l i (le-of-suc-le-suc h)
+
+pub span-zeros : (n : ℕ) → span {A = ℕ} (λ i. 0) 0 n ≡ replicate n 0
+unfolding span
+span-zeros n = from 0 n
+  where
+    from : (s n : ℕ) → span {A = ℕ} (λ i. 0) s n ≡ replicate n 0
+    from s zero = refl
+    from s (suc n) = ap {B = List ℕ} (λ l. 0 ∷ l) (from (suc s) n)
+
+-- ---- a list that is overwritten from its first element on
+module _ (f : ℕ → ℕ) (d : List ℕ) where
+  pub overwrite-none : d ≡ overwrite f 0 d
+  unfolding span
+  overwrite-none = refl
+
+  pub overwrite-length : (k : ℕ) → k ≤ length d → length (overwrite f k d) ≡ length d
+  overwrite-length k h = length-append (span f 0 k) (drop k d) ∙ omega (arith, span-length f 0 k, length-drop k d)
+
+  span-more : (k : ℕ) → span f 0 (suc k) ≡ span f 0 k ++ (f k ∷ [])
+  unfolding span
+  span-more k = ap (span f 0) (sym (add-one k)) ∙ span-split f 0 k 1 ∙ rw zero-add
+
+  -- the element at k is not yet overwritten
+  pub overwrite-next : (k : ℕ) → k < length d → getD (overwrite f k d) k 0 ≡ getD d k 0
+  overwrite-next k h = rw (drop-cons d k 0 h) (getD-at (span f 0 k) (getD d k 0) (drop (suc k) d) 0 k (span-length f 0 k))
+
+  pub overwrite-at : (k i : ℕ) → i < k → getD (overwrite f k d) i 0 ≡ f i
+  overwrite-at k i h = List·getD-append (span f 0 k) (drop k d) 0 i (rw (span-length f 0 k) h) ∙ span-get f 0 k i h
+
+  pub overwrite-set : (k : ℕ) → k < length d → set (overwrite f k d) k (f k) ≡ overwrite f (suc k) d
+  overwrite-set k h =
+      rw (drop-cons d k 0 h, span-more k)
+      (set-at (span f 0 k) (getD d k 0) (drop (suc k) d) (f k) k (span-length f 0 k) ∙ sym (append-assoc (span f 0 k) (f k ∷ []) (drop (suc k) d)))
+
+  pub overwrite-more : (k : ℕ) {l : List ℕ} {v : ℕ} → l ≡ overwrite f k d → k < length d → v ≡ f k → set l k v ≡ overwrite f (k + 1) d
+  overwrite-more k inv h e = rw (inv, e, add-one k) (overwrite-set k h)
+
+  pub overwrite-sets : (n k : ℕ) → k + n ≤ length d → sets (overwrite f k d) k (span f k n) ≡ overwrite f (k + n) d
+  unfolding span
+  overwrite-sets zero k h = rw add-zero
+  overwrite-sets (suc n) k h =
+      ap (λ (l : List ℕ). sets l (suc k) (span f (suc k) n)) (overwrite-set k (omega arith))
+      ∙ overwrite-sets n (suc k) (omega arith)
+      ∙ ap (λ (j : ℕ). overwrite f j d) (let e : suc k + n ≡ k + suc n = omega arith in e)
+
+  pub overwrite-all : (k : ℕ) {l : List ℕ} → l ≡ overwrite f k d → k ≤ length d → length d ≤ k → l ≡ span f 0 (length d)
+  overwrite-all k inv g h =
+      let e : k ≡ length d = omega arith in
+      inv ∙ rw (drop-of-length-le d h, e) (append-nil (span f 0 (length d)))
+
+-- ---- a loop that folds a list from its first element on: inv says that folding what is left over the present state gives all
+module _ {A S : Type 0} (step : A → S → S) (xs : List A) (d : A) (i : ℕ) (s : S) {all : S} (inv : fold step (drop i xs) s ≡ all) where
+  pub fold-turn : {s′ : S} → i < length xs → s′ ≡ step (getD xs i d) s → fold step (drop (i + 1) xs) s′ ≡ all
+  unfolding fold
+  fold-turn h e = rw (add-one i, e) (rw (drop-cons xs i d) at inv)
+
+  pub fold-end : length xs ≤ i → s ≡ all
+  unfolding fold
+  fold-end h = rw (drop-of-length-le xs h) at inv
+
+-- ---- the largest number of a list
+pub largest-turn : (w : List ℕ) (i t : ℕ) {all : ℕ} → max t (largestOf (drop i w)) ≡ all → i < length w → {t′ : ℕ} → t′ ≡ max t (getD w i 0)
+    → max t′ (largestOf (drop (i + 1) w)) ≡ all
+unfolding largestOf
+largest-turn w i t inv h e = rw (add-one i, e) (omega (arith, rw (drop-cons w i 0) at inv))
+
+pub largest-end : (w : List ℕ) (i t : ℕ) {all : ℕ} → max t (largestOf (drop i w)) ≡ all → length w ≤ i → t ≡ all
+unfolding largestOf
+largest-end w i t inv h = omega (arith, rw (drop-of-length-le w h) at inv)
