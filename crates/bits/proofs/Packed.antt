@@ -3,14 +3,15 @@ use mathlib.Core.List.{List, [], _∷_, _++_}
 use mathlib.Core.Path.{_≡_, refl, sym, ap, _∙_, fun-ext}
 use Prim.Native.Nat.{ℕ, zero, suc, _+_, _*_, _-_, _/_, _%_, _^_, _≤_, _<_}
 use native.Mathlib.Nat.{add-zero, zero-div}
+use native.Mathlib.Decide.{decLt}
 use native.Mathlib.Omega.{arith}
 use lib.ListN.{length, getD, List·getD-eq-default}
 use lib.Seq.{sets, ext-getD}
 use Rattle.maths.specs.Bits.{bitAt}
 use Rattle.maths.specs.Lists.{span, overwrite}
 use Rattle.maths.proofs.Lists.{span-length}
-use Rattle.maths.proofs.Slices.{span-get, span-is, overwrite-sets}
-use Rattle.bits.specs.Packed.{eight, byteFrom, byteOf}
+use Rattle.maths.proofs.Slices.{span-get, span-is, overwrite-sets, overwrite-at, overwrite-length}
+use Rattle.bits.specs.Packed.{wholeBytes, eight, byteFrom, byteOf, unpacked}
 
 -- ---- unpacking: the eight bits of byte i
 place : (s : List ℕ) (i j x k : ℕ) → j < 8 → k ≡ 8 * i + j → x ≡ getD s i 0 → x / 2 ^ (7 - j) % 2 ≡ bitAt s k
@@ -46,6 +47,19 @@ pub bit-past : (s : List ℕ) (v : ℕ) → 8 * length s ≤ v → bitAt s v ≡
 bit-past s v h =
     let k : length s ≤ v / 8 = omega arith in
     rw (List·getD-eq-default s 0 k, zero-div (2 ^ (7 - v % 8)))
+
+-- the bits of a byte string that fills the list
+pub unpacked-word : (s d : List ℕ) → 8 * length s ≡ length d → (λ v. getD (unpacked s d) v 0) ≡ bitAt s
+unpacked-word s d e = fun-ext (λ v. go v (decLt v (length d)))
+  where
+    all : 8 * wholeBytes (length s) (length d) ≡ length d
+    all = omega arith
+
+    go : (v : ℕ) → Dec (v < length d) → getD (unpacked s d) v 0 ≡ bitAt s v
+    go v (yes h) = overwrite-at (bitAt s) d (8 * wholeBytes (length s) (length d)) v (omega (arith, all))
+    go v (no h) =
+        let n : length (unpacked s d) ≤ v = omega (arith, overwrite-length (bitAt s) d (8 * wholeBytes (length s) (length d)) (omega (arith, all))) in
+        List·getD-eq-default (unpacked s d) 0 n ∙ sym (bit-past s v (omega arith))
 
 -- ---- packing: the bits of a byte that is put together
 digit : (a b c d e f g h : ℕ) (r : ℕ) → r < 8

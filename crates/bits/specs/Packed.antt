@@ -1,7 +1,9 @@
 -- Byte strings as one byte for a bit. Assumes nothing.
 use mathlib.Core.List.{List, [], _∷_}
 use Prim.Native.Nat.{ℕ, _+_, _*_, _/_, _%_, min}
-use lib.ListN.{getD}
+use lib.ListN.{length, getD}
+use Rattle.maths.specs.Bits.{bitAt}
+use Rattle.maths.specs.Lists.{overwrite}
 
 -- how many whole bytes both have room for
 abbrev pub wholeBytes : ℕ → ℕ → ℕ
@@ -26,3 +28,10 @@ byteFrom bits v =
 -- byte i of the byte string that has these bits
 unfoldable pub byteOf : List ℕ → ℕ → ℕ
 byteOf bits i = byteFrom bits (8 * i)
+
+-- a list of bits after the bits of a byte string were put at its start, and a byte string after the bytes of a list of bits were: as many whole bytes as there is room for
+abbrev pub unpacked : List ℕ → List ℕ → List ℕ
+unpacked bytes bits = overwrite (bitAt bytes) (8 * wholeBytes (length bytes) (length bits)) bits
+
+abbrev pub packed : List ℕ → List ℕ → List ℕ
+packed bits bytes = overwrite (byteOf bits) (wholeBytes (length bytes) (length bits)) bytes

@@ -1,11 +1,10 @@
 // Byte strings as one byte for a bit, the highest bit of a byte first.
 ghost use mathlib.Core.Path.{_≡_};
-ghost use Prim.Native.Nat.{_+_, _*_, _≤_, max};
+ghost use Prim.Native.Nat.{_+_, _≤_, max};
 ghost use lib.ListN.{length, replicate};
 ghost use lib.Seq.{sets};
-ghost use Rattle.maths.specs.Bits.{bitAt};
-ghost use Rattle.maths.specs.Lists.{overwrite, largestOf};
-ghost use Rattle.bits.specs.Packed.{wholeBytes, eight, byteFrom, byteOf};
+ghost use Rattle.maths.specs.Lists.{largestOf};
+ghost use Rattle.bits.specs.Packed.{wholeBytes, eight, byteFrom, unpacked, packed};
 
 // How many whole bytes both have room for.
 fn whole_bytes(bytes: usize, bits: usize) -> usize
@@ -30,7 +29,7 @@ fn unpack_byte(x: u8, bits: &mut [u8], v: usize)
 
 // The bits of as many bytes as there is room for; the rest of bits stays as it is.
 pub fn unpack(bytes: &[u8], bits: &mut [u8])
-    ensures { λ _. ⌜ now (bits .exit) ≡ overwrite (bitAt (now (bytes .entry))) (8 * wholeBytes (length (now (bytes .entry))) (length (now (bits .entry)))) (now (bits .entry)) ⌝ }
+    ensures { λ _. ⌜ now (bits .exit) ≡ unpacked (now (bytes .entry)) (now (bits .entry)) ⌝ }
 {
     let n = whole_bytes(bytes.len(), bits.len());
     for i in 0..n {
@@ -54,7 +53,7 @@ fn pack_byte(bits: &[u8], v: usize) -> u8
 
 // As many bytes as there is room for, of bits that are taken modulo 2; the rest of bytes stays as it is.
 pub fn pack(bits: &[u8], bytes: &mut [u8])
-    ensures { λ _. ⌜ now (bytes .exit) ≡ overwrite (byteOf (now (bits .entry))) (wholeBytes (length (now (bytes .entry))) (length (now (bits .entry)))) (now (bytes .entry)) ⌝ }
+    ensures { λ _. ⌜ now (bytes .exit) ≡ packed (now (bits .entry)) (now (bytes .entry)) ⌝ }
 {
     let n = whole_bytes(bytes.len(), bits.len());
     for i in 0..n {

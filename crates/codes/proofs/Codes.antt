@@ -8,7 +8,7 @@ use lib.Dec.{T, ltb, leb, eqb, ltb→lt, leb→le, eqb→eq}
 use lib.ListN.{getD}
 use borrow.Author.Tests.{ltb-false}
 use Rattle.maths.specs.Tests.{pick, both, all}
-use Rattle.maths.proofs.Tests.{both-left, both-right, all-at, all-anywhere, below-eq}
+use Rattle.maths.proofs.Tests.{both-left, both-right, all-at, all-anywhere, below-at, below-eq}
 use Rattle.codes.specs.declared.CodeParams.{CodeParams}
 use Rattle.codes.specs.declared.MatrixTables.{MatrixTables}
 use Rattle.codes.specs.declared.«parity_iter».Block.{Block}
@@ -16,7 +16,7 @@ use Rattle.codes.specs.declared.«parity_iter».Block.the-variants.{Ends
 use Rattle.codes.specs.Tables.{prototypes}
 use Rattle.codes.specs.Codes.{codes, Known, rows, row, rowOf, bitsIn, checksIn, tables, tablesOf, prototypeOf}
 use Rattle.codes.specs.Blocks.{byteAt, blockOf}
-use Rattle.codes.specs.Sound.{Sized, Small}
+use Rattle.codes.specs.Sound.{Sized, Small, Roomy}
 
 size-test : CodeParams → Bool
 size-test r =
@@ -51,6 +51,19 @@ lengths code h =
           below-eq codes (λ c. rowOf c .«decode_ms_working_len») (λ c. 2 * rowOf c .«paritycheck_sum» + 3 * bitsIn c - 2 * rowOf c .k) tt code h;
       signs = below-eq codes (λ c. rowOf c .«decode_ms_working_u8_len») (λ c. checksIn c / 8) tt code h;
       output = below-eq codes (λ c. rowOf c .«output_len») (λ c. bitsIn c / 8) tt code h;
+    }
+
+-- the buffers that are made for all codes serve each of them
+pub roomy : (code : ℕ) → Known code → Roomy (rowOf code)
+unfolding rows
+roomy code h =
+    record {
+      bits = leb→le (bitsIn code) 5632 (below-at codes (λ c. leb (bitsIn c) 5632) tt code h);
+      checks = leb→le (checksIn code) 1536 (below-at codes (λ c. leb (checksIn c) 1536) tt code h);
+      k-low = leb→le (rowOf code .k) (rowOf code .n) (below-at codes (λ c. leb (rowOf c .k) (rowOf c .n)) tt code h);
+      sent = below-eq codes (λ c. 8 * (rowOf c .n / 8)) (λ c. rowOf c .n) tt code h;
+      whole = below-eq codes (λ c. 8 * rowOf c .«output_len») bitsIn tt code h;
+      working = lengths code h .bit-flipping;
     }
 
 -- the tables of every code are there

@@ -7,3 +7,6 @@ pub mod Stored
 pub mod Filling
 pub mod Filled
 pub mod Flat
+pub mod Sweep
+pub mod Tally
+pub mod Parity

@@ -8,3 +8,4 @@ pub mod Walk
 pub mod Runs
 pub mod Sound
 pub mod Equations
+pub mod Steps

@@ -7,7 +7,7 @@ use lib.Dec.{eqb, leb}
 use lib.ListN.{length, getD, replicate}
 use lib.Seq.{sets}
 use Rattle.maths.specs.Tests.{pick, both}
-use Rattle.maths.specs.Lists.{span}
+use Rattle.maths.specs.Lists.{span, keep}
 use Rattle.codes.specs.declared.«parity_iter».Place.{Place}
 use Rattle.codes.specs.declared.«parity_iter».Block.{Block}
 use Rattle.codes.specs.declared.«parity_iter».Block.the-variants.{Ends, Empty, Identity, Permutation}
@@ -77,6 +77,10 @@ readRuns [] = []
 readRuns (a ∷ []) = []
 readRuns (a ∷ v ∷ []) = []
 readRuns (a ∷ v ∷ l ∷ ns) = run a v l ∷ readRuns ns
+
+-- the edges of those runs of a list of numbers that lie within m checks and n bits
+unfoldable pub laid : ℕ → ℕ → List ℕ → List Edge
+laid m n ns = flatMap runEdges (keep (within m n) (readRuns ns))
 
 -- a list of triples that held t runs holds those of rs more, and t′ in all
 pub record Stored (triples : List ℕ) (t : ℕ) (rs : List Run) (triples′ : List ℕ) (t′ : ℕ) : Type 0 where

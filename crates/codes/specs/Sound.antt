@@ -1,8 +1,9 @@
 -- What the tables of the codes satisfy, as the functions over them ask it. Assumes nothing.
 use mathlib.Core.List.{List, flatMap}
 use mathlib.Core.Path.{_≡_}
-use Prim.Native.Nat.{ℕ, _+_, _*_, _%_, _≤_, _<_}
+use Prim.Native.Nat.{ℕ, _+_, _-_, _*_, _/_, _%_, _≤_, _<_}
 use lib.ListN.{length}
+use Rattle.codes.specs.declared.CodeParams.{CodeParams}
 use Rattle.codes.specs.declared.«parity_iter».Place.{Place}
 use Rattle.codes.specs.declared.«parity_iter».Block.{Block}
 use Rattle.codes.specs.declared.«parity_iter».Block.the-variants.{Ends, Empty, Identity, Permutation}
@@ -35,3 +36,12 @@ pub record Fills (x : Matrix) : Type 0 where
   pub sized : Sized (x .size)
   pub small : (l r c : ℕ) → Small (blockOf (byteAt (x .prototype) l r c))
   pub few : length (flatMap (blockRuns x) (blocks (x .prototype))) + 8 ≤ room
+
+-- the bits and checks of a code fit the arrays that are made for them, and its bytes are whole
+pub record Roomy (r : CodeParams) : Type 0 where
+  pub bits : r .n + r .«punctured_bits» ≤ 5632
+  pub checks : r .n + r .«punctured_bits» - r .k ≤ 1536
+  pub k-low : r .k ≤ r .n
+  pub sent : 8 * (r .n / 8) ≡ r .n
+  pub whole : 8 * r .«output_len» ≡ r .n + r .«punctured_bits»
+  pub working : r .«decode_bf_working_len» ≡ r .n + r .«punctured_bits»

@@ -27,6 +27,11 @@ pub const WRONG_SIGNS: u8 = 5;
 // How many codes there are: TC128, TC256, TC512, TM1280, TM1536, TM2048, TM5120, numbered from 0.
 pub const CODES: usize = 7;
 
+// No code has more bits, those not sent included, or more checks.
+pub const MAX_BITS: usize = 5632;
+
+pub const MAX_CHECKS: usize = 1536;
+
 pub struct CodeParams {
     // Bits sent.
     pub n: usize,

@@ -2,9 +2,10 @@
 ghost use mathlib.Core.Path.{_≡_};
 ghost use mathlib.Core.List.{[], _∷_, flatMap};
 ghost use Prim.Native.Nat.{_+_, _*_, _/_, _<_, _≤_};
+ghost use lib.ListN.{getD};
 ghost use Rattle.codes.specs.Codes.{made};
 ghost use Rattle.codes.specs.Blocks.{blocks};
-ghost use Rattle.codes.specs.Runs.{run, turned, quarters, runsAt, blockRuns, runsOf, room, Stored};
+ghost use Rattle.codes.specs.Runs.{run, within, turned, quarters, runsAt, blockRuns, runsOf, readRuns, room, Stored};
 ghost use Rattle.codes.specs.Sound.{Small, Fits, Fills};
 use crate::CODES;
 use crate::compact_parity_checks::THETA_K;
@@ -25,6 +26,13 @@ use crate::row_of;
 pub struct Runs {
     pub count: usize,
     pub triples: [u16; 792],
+}
+
+// One run: its first check, its first bit, and how many edges it has.
+pub struct EdgeRun {
+    pub check: Check,
+    pub bit: Bit,
+    pub size: usize,
 }
 
 fn put_run(triples: &mut [u16; 792], t: usize, check: Check, bit: Bit, size: usize) -> usize
@@ -162,4 +170,39 @@ pub fn runs_of(code: usize) -> Runs
     let theta = THETA_K;
     let count = fill(&mut triples, m, &theta, &phi, &h);
     Runs { count, triples }
+}
+
+// Run number i of a list of triples; one without edges where there is none.
+pub fn run_at(triples: &[u16], i: usize) -> EdgeRun
+    ensures { λ r. ⌜ run (r .check .0) (r .bit .0) (r .size) ≡ getD (readRuns (now (triples .entry))) i (run 0 0 0) ⌝ }
+{
+    if i < triples.len() / 3 {
+        EdgeRun {
+            check: Check(wide(triples[3 * i])),
+            bit: Bit(wide(triples[3 * i + 1])),
+            size: wide(triples[3 * i + 2]),
+        }
+    } else {
+        EdgeRun {
+            check: Check(0),
+            bit: Bit(0),
+            size: 0,
+        }
+    }
+}
+
+// Whether a run lies within so many checks and bits.
+pub fn lies_within(check: Check, bit: Bit, size: usize, checks: usize, bits: usize) -> bool
+    ensures { λ r. ⌜ r ≡ within checks bits (run (check .0) (bit .0) size) ⌝ }
+{
+    if size > checks {
+        return false;
+    }
+    if size > bits {
+        return false;
+    }
+    if check.0 > checks - size {
+        return false;
+    }
+    bit.0 <= bits - size
 }

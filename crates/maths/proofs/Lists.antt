@@ -1,5 +1,5 @@
 -- Lists that are counted up, and lists put together from lists. Assumes nothing.
-use mathlib.Core.Bool.{Bool}
+use mathlib.Core.Bool.{Bool, true, false}
 use mathlib.Core.List.{List, [], _∷_, _++_, map, append-assoc, flatMap, head-eq-of-cons-eq, tail-eq-of-cons-eq}
 use mathlib.Core.Path.{_≡_, refl, sym, ap, _∙_}
 use Prim.Native.Nat.{ℕ, zero, suc, _+_, _-_, _*_, _≤_, _<_}
@@ -8,8 +8,8 @@ use native.Mathlib.Numerals.{add-one}
 use native.Mathlib.Omega.{arith}
 use lib.Dec.{T}
 use lib.ListN.{length, getD, length-append}
-use Rattle.maths.specs.Tests.{all}
-use Rattle.maths.specs.Lists.{span, fold}
+use Rattle.maths.specs.Tests.{pick, all}
+use Rattle.maths.specs.Lists.{span, fold, keep}
 use Rattle.maths.proofs.Tests.{both-left, both-right}
 
 module _ {A : Type 0} where
@@ -71,6 +71,16 @@ table-same f g l m n e i j k hi hj hk =
     let a = span-same (λ i. span (λ j. span (f i j) 0 n) 0 m) (λ i. span (λ j. span (g i j) 0 n) 0 m) l e i hi in
     let b = span-same (λ j. span (f i j) 0 n) (λ j. span (g i j) 0 n) m a j hj in
     span-same (f i j) (g i j) n b k hk
+
+-- a test that holds of every element keeps them all
+pub keep-all : {A : Type 0} (f : A → Bool) (xs : List A) → T (all f xs) → keep f xs ≡ xs
+unfolding keep
+keep-all f [] t = refl
+keep-all f (x ∷ xs) t = go (f x) (both-left (f x) (all f xs) t) (keep-all f xs (both-right (f x) (all f xs) t))
+  where
+    go : (b : Bool) → T b → keep f xs ≡ xs → pick b (x ∷ keep f xs) (keep f xs) ≡ x ∷ xs
+    go true s ih = rw ih
+    go false s ih = absurd s
 
 module _ {A B : Type 0} where
   -- two functions that are the same where a test holds, as it does of every element

@@ -3,7 +3,7 @@ use mathlib.Core.Bool.{Bool, true, false}
 use mathlib.Core.List.{List, [], _∷_, _++_, map, append-nil, append-assoc}
 use mathlib.Core.Path.{_≡_, refl, sym, ap, _∙_}
 use Prim.Native.Nat.{ℕ, zero, suc, _+_, _*_, _/_, _≤_, _<_, max}
-use native.Mathlib.Nat.{add-zero, zero-add, add-suc, suc-add, zero-max, le-of-suc-le-suc, not-suc-le-zero}
+use native.Mathlib.Nat.{add-zero, zero-add, add-suc, suc-add, max-zero, le-of-suc-le-suc, not-suc-le-zero}
 use native.Mathlib.Numerals.{add-one}
 use native.Mathlib.Omega.{arith}
 use borrow.Author.Tests.{ne-eqb}
@@ -46,6 +46,11 @@ span-zeros n = from 0 n
     from s zero = refl
     from s (suc n) = ap {B = List ℕ} (λ l. 0 ∷ l) (from (suc s) n)
 
+-- its last element
+span-more : (f : ℕ → ℕ) (k : ℕ) → span f 0 (suc k) ≡ span f 0 k ++ (f k ∷ [])
+unfolding span
+span-more f k = ap (span f 0) (sym (add-one k)) ∙ span-split f 0 k 1 ∙ rw zero-add
+
 -- ---- a list that is overwritten from its first element on
 module _ (f : ℕ → ℕ) (d : List ℕ) where
   pub overwrite-none : d ≡ overwrite f 0 d
@@ -54,10 +59,6 @@ module _ (f : ℕ → ℕ) (d : List ℕ) where
 
   pub overwrite-length : (k : ℕ) → k ≤ length d → length (overwrite f k d) ≡ length d
   overwrite-length k h = length-append (span f 0 k) (drop k d) ∙ omega (arith, span-length f 0 k, length-drop k d)
-
-  span-more : (k : ℕ) → span f 0 (suc k) ≡ span f 0 k ++ (f k ∷ [])
-  unfolding span
-  span-more k = ap (span f 0) (sym (add-one k)) ∙ span-split f 0 k 1 ∙ rw zero-add
 
   -- the element at k is not yet overwritten
   pub overwrite-next : (k : ℕ) → k < length d → getD (overwrite f k d) k 0 ≡ getD d k 0
@@ -68,7 +69,7 @@ module _ (f : ℕ → ℕ) (d : List ℕ) where
 
   pub overwrite-set : (k : ℕ) → k < length d → set (overwrite f k d) k (f k) ≡ overwrite f (suc k) d
   overwrite-set k h =
-      rw (drop-cons d k 0 h, span-more k)
+      rw (drop-cons d k 0 h, span-more f k)
       (set-at (span f 0 k) (getD d k 0) (drop (suc k) d) (f k) k (span-length f 0 k) ∙ sym (append-assoc (span f 0 k) (f k ∷ []) (drop (suc k) d)))
 
   pub overwrite-more : (k : ℕ) {l : List ℕ} {v : ℕ} → l ≡ overwrite f k d → k < length d → v ≡ f k → set l k v ≡ overwrite f (k + 1) d
@@ -106,3 +107,20 @@ largest-turn w i t inv h e = rw (add-one i, e) (omega (arith, rw (drop-cons w i 
 pub largest-end : (w : List ℕ) (i t : ℕ) {all : ℕ} → max t (largestOf (drop i w)) ≡ all → length w ≤ i → t ≡ all
 unfolding largestOf
 largest-end w i t inv h = omega (arith, rw (drop-of-length-le w h) at inv)
+
+largest-last : (xs : List ℕ) (x : ℕ) → largestOf (xs ++ (x ∷ [])) ≡ max (largestOf xs) x
+unfolding largestOf
+largest-last [] x = omega arith
+largest-last (y ∷ xs) x = omega (arith, largest-last xs x)
+
+-- it is 0 if each of them is
+pub largest-none : (f : ℕ → ℕ) (n : ℕ) → eqb (largestOf (span f 0 n)) 0 ≡ below n (λ i. eqb (f i) 0)
+unfolding span largestOf
+largest-none f zero = refl
+largest-none f (suc n) =
+    ap (λ (l : List ℕ). eqb (largestOf l) 0) (span-more f n) ∙ ap (λ (t : ℕ). eqb t 0) (largest-last (span f 0 n) (f n))
+    ∙ go (largestOf (span f 0 n)) (f n) ∙ ap (both (eqb (f n) 0)) (largest-none f n)
+  where
+    go : (a b : ℕ) → eqb (max a b) 0 ≡ both (eqb b 0) (eqb a 0)
+    go a zero = rw max-zero
+    go a (suc b) = rw (eqb·suc-zero b) (ne-eqb (max a (suc b)) 0 (λ e. omega arith))

@@ -23,6 +23,14 @@ pub both-make : (a b : Bool) → T a → T b → T (both a b)
 both-make true b s t = t
 both-make false b s t = absurd s
 
+pub both-first : (a b : Bool) → both a b ≡ true → a ≡ true
+both-first true b e = refl
+both-first false b e = e
+
+pub both-second : (a b : Bool) → both a b ≡ true → b ≡ true
+both-second true b e = e
+both-second false b e = absurd (let z : _≡_ {A = ℕ} 0 1 = cc in omega arith)
+
 pub both-true : (a : Bool) → both a true ≡ a
 both-true true = refl
 both-true false = refl
@@ -53,6 +61,21 @@ below-at (suc n) f t k h =
 -- a computed equation at every number below a bound
 pub below-eq : (n : ℕ) (f g : ℕ → ℕ) → T (below n (λ i. eqb (f i) (g i))) → (i : ℕ) → i < n → f i ≡ g i
 below-eq n f g t i h = eqb→eq (f i) (g i) (below-at n (λ i. eqb (f i) (g i)) t i h)
+
+pub T-true : (b : Bool) → T b → b ≡ true
+T-true true t = refl
+T-true false t = absurd t
+
+pub true-T : (b : Bool) → b ≡ true → T b
+true-T true e = tt
+true-T false e = absurd (let z : _≡_ {A = ℕ} 0 1 = cc in omega arith)
+
+pub below-true : (n : ℕ) (f : ℕ → Bool) → below n f ≡ true → (k : ℕ) → k < n → f k ≡ true
+below-true n f e k h = T-true (f k) (below-at n f (true-T (below n f) e) k h)
+
+pub below-all : (n : ℕ) (f : ℕ → Bool) → ((k : ℕ) → k < n → f k ≡ true) → below n f ≡ true
+below-all zero f h = refl
+below-all (suc n) f h = rw (h n (omega arith)) (below-all n f (λ k l. h k (omega arith)))
 
 -- a property of both is one of the picked
 pub pick-both {ℓ} : {A : Type ℓ} (P : A → Type 0) (t : Bool) (a b : A) → P a → P b → P (pick t a b)
