@@ -63,7 +63,7 @@ module _ (m n a v l : ℕ) where
 -- ---- a fold over the runs that lie within is one over their edges
 module _ {S : Type 0} (m n : ℕ) (step : Edge → S → S) where
   pub over-kept : (rs : List Run) (s : S) → fold (overRun m n step) rs s ≡ fold step (flatMap runEdges (keep (within m n) rs)) s
-  unfolding fold keep overRun flatMap
+  unfolding fold overRun flatMap
   over-kept [] s = refl
   over-kept (r ∷ rs) s = over-kept rs (overRun m n step r s) ∙ go (within m n r)
     where

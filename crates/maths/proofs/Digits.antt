@@ -1,9 +1,7 @@
 -- Numbers as a block of m and a place in it. Assumes nothing.
 use mathlib.Core.Bool.{Bool, true, false}
 use mathlib.Core.Path.{_≡_, refl, sym, ap, ap₂, _∙_}
-use Prim.Native.Nat.{ℕ, _+_, _-_, _*_, _/_, _%_, _<_}
-use native.Mathlib.Nat.{add-mod-right, mod-add-mod}
-use native.Mathlib.Omega.{arith}
+use Prim.Native.Nat.{ℕ, _+_, _*_, _/_, _%_, _<_}
 use borrow.Author.Tests.{eqb-true, eqb-false, eq-eqb, ne-eqb}
 use lib.Arith.{digits-div, digits-mod}
 use lib.Dec.{eqb}
@@ -20,12 +18,3 @@ digits-eqb m p q {s} {t} hs ht = go (eqb p q) refl (eqb s t) refl
         ne-eqb (p * m + s) (q * m + t) (λ z. eqb-false s t f (sym (digits-mod p hs) ∙ ap (λ (n : ℕ). n % m) z ∙ digits-mod q ht))
     go false e y f =
         ne-eqb (p * m + s) (q * m + t) (λ z. eqb-false p q e (sym (digits-div p hs) ∙ ap (λ (n : ℕ). n / m) z ∙ digits-div q ht))
-
--- what is turned alike was alike
-pub turn-alike : (m x y t : ℕ) → t < m → (x + t) % m ≡ (y + t) % m → x % m ≡ y % m
-turn-alike m x y t h e = sym (back x) ∙ ap (λ (n : ℕ). (n + (m - t)) % m) e ∙ back y
-  where
-    back : (z : ℕ) → ((z + t) % m + (m - t)) % m ≡ z % m
-    back z =
-        let w : z + t + (m - t) ≡ z + m = omega arith in
-        mod-add-mod (z + t) m (m - t) ∙ rw w (add-mod-right z m)

@@ -2,6 +2,7 @@ pub mod Tests
 pub mod Search
 pub mod Lists
 pub mod Slices
+pub mod Tally
 pub mod Sums
 pub mod Digits
 pub mod Turns

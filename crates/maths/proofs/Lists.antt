@@ -74,7 +74,6 @@ table-same f g l m n e i j k hi hj hk =
 
 -- a test that holds of every element keeps them all
 pub keep-all : {A : Type 0} (f : A → Bool) (xs : List A) → T (all f xs) → keep f xs ≡ xs
-unfolding keep
 keep-all f [] t = refl
 keep-all f (x ∷ xs) t = go (f x) (both-left (f x) (all f xs) t) (keep-all f xs (both-right (f x) (all f xs) t))
   where

@@ -1,30 +1,43 @@
 -- Turning a block of b numbers: x goes to (x + e) % b. Assumes nothing.
 use mathlib.Core.Path.{_≡_, refl, sym, ap, ap₂, _∙_}
 use Prim.Native.Nat.{ℕ, zero, suc, _+_, _-_, _*_, _/_, _%_, _<_}
-use native.Mathlib.Nat.{add-zero, add-comm, add-assoc, suc-mul, mod-lt, mod-eq-of-lt, mod-self, mod-add-mod, add-mul-mod-self-right, div-add-mod'}
+use native.Mathlib.Nat.{add-zero, add-comm, add-assoc, suc-mul, mod-lt, mod-eq-of-lt, mod-self, mod-add-mod, add-mod-mod, add-mul-mod-self-right, div-add-mod'}
 use native.Mathlib.Numerals.{add-one}
+use native.Mathlib.Decide.{ℕ-discrete}
 use native.Mathlib.Omega.{arith}
-use lib.Arith.{digits-div}
+use borrow.Author.Tests.{eq-eqb, ne-eqb}
+use lib.Dec.{eqb}
 use Rattle.maths.specs.Sums.{sumN}
 use Rattle.maths.proofs.Sums.{sumN-ext, sumN-front}
-
--- two numbers given by block and offset are equal only if the blocks are
-pub block-of : (b p q : ℕ) {s t : ℕ} → s < b → t < b → p * b + s ≡ q * b + t → p ≡ q
-block-of b p q hs ht e = sym (digits-div p hs) ∙ ap (λ (x : ℕ). x / b) e ∙ digits-div q ht
 
 pub turn-self : (b o : ℕ) → o < b → (o + (b - o)) % b ≡ 0
 turn-self b o ho =
     let e : o + (b - o) ≡ b = omega arith in
     rw e (mod-self b)
 
-pub turn-back : (b x e : ℕ) → x < b → ((x + e) % b + (b - e % b)) % b ≡ x
-turn-back b x e hx =
-    let r : e % b < b = mod-lt e (omega arith) in
+-- a sum turned, and one of its terms turned
+pub turn-term : (b x y e : ℕ) → ((x + y) % b + e) % b ≡ (x + (y + e) % b) % b
+turn-term b x y e = mod-add-mod (x + y) b e ∙ ap (λ (n : ℕ). n % b) (add-assoc x y e) ∙ sym (add-mod-mod x (y + e) b)
+
+pub turn-back : (b x e : ℕ) → 0 < b → ((x + e) % b + (b - e % b)) % b ≡ x % b
+turn-back b x e pos =
+    let r : e % b < b = mod-lt e pos in
     let s : x + e + (b - e % b) ≡ x + suc (e / b) * b = omega (arith, suc-mul (e / b) b, div-add-mod' e b) in
-    mod-add-mod (x + e) b (b - e % b) ∙ ap (λ (n : ℕ). n % b) s ∙ add-mul-mod-self-right x (suc (e / b)) b ∙ mod-eq-of-lt hx
+    mod-add-mod (x + e) b (b - e % b) ∙ ap (λ (n : ℕ). n % b) s ∙ add-mul-mod-self-right x (suc (e / b)) b
+
+-- what is turned alike was alike
+pub turn-alike : (b x y e : ℕ) → 0 < b → (x + e) % b ≡ (y + e) % b → x % b ≡ y % b
+turn-alike b x y e pos q = sym (turn-back b x e pos) ∙ ap (λ (n : ℕ). (n + (b - e % b)) % b) q ∙ turn-back b y e pos
 
 pub turn-inj : (b x y e : ℕ) → x < b → y < b → (x + e) % b ≡ (y + e) % b → x ≡ y
-turn-inj b x y e hx hy q = sym (turn-back b x e hx) ∙ ap (λ (n : ℕ). (n + (b - e % b)) % b) q ∙ turn-back b y e hy
+turn-inj b x y e hx hy q = sym (mod-eq-of-lt hx) ∙ turn-alike b x y e (omega arith) q ∙ mod-eq-of-lt hy
+
+pub turn-eqb : (b x y e : ℕ) → x < b → y < b → eqb ((x + e) % b) ((y + e) % b) ≡ eqb x y
+turn-eqb b x y e hx hy = go (ℕ-discrete x y)
+  where
+    go : Dec (x ≡ y) → eqb ((x + e) % b) ((y + e) % b) ≡ eqb x y
+    go (yes p) = rw (p, eq-eqb y y refl, eq-eqb ((y + e) % b) ((y + e) % b) refl)
+    go (no p) = rw (ne-eqb ((x + e) % b) ((y + e) % b) (λ q. p (turn-inj b x y e hx hy q)), ne-eqb x y p)
 
 -- a turned sum is the sum
 turn-one : (b : ℕ) (f : ℕ → ℕ) → sumN b (λ t. f ((t + 1) % b)) ≡ sumN b f

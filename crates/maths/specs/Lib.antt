@@ -1,6 +1,7 @@
 pub mod Tests
 pub mod Search
 pub mod Lists
+pub mod Tally
 pub mod Sums
 pub mod Ones
 pub mod Bits

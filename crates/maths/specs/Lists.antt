@@ -16,7 +16,7 @@ fold step [] s = s
 fold step (x ∷ xs) s = fold step xs (step x s)
 
 -- the elements of which a test holds
-unfoldable pub keep : {A : Type 0} → (A → Bool) → List A → List A
+abbrev pub keep : {A : Type 0} → (A → Bool) → List A → List A
 keep f [] = []
 keep f (x ∷ xs) = pick (f x) (x ∷ keep f xs) (keep f xs)
 

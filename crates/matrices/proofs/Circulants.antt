@@ -107,6 +107,7 @@ all-listed : T (below codes (λ code. all (listed code) (blocksOf code)))
 unfolding listed fits rows tables prototypes blocksOf lastRows rowBlocks cellBlocks blockOf
 all-listed = tt
 
+-- the edges of a code are those of its circulants, in the same order
 pub edges-circs : (code : ℕ) → Known code → edges code ≡ edgesOf (circulantOf code) (circs code)
 unfolding listed edges edgesOf circs blockEdges edgeAt blockCircs sides
 edges-circs code h =

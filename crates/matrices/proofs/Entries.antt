@@ -2,43 +2,31 @@
 use mathlib.Core.Bool.{Bool}
 use mathlib.Core.List.{List, []}
 use mathlib.Core.Path.{_≡_, refl, ap, _∙_}
-use Prim.Native.Nat.{ℕ, zero, _+_, _*_, _/_, _%_, _≤_, _<_}
-use native.Mathlib.Nat.{mod-lt, mod-eq-of-lt, mul-comm, add-sub-cancel, div-add-mod', div-lt-iff-lt-mul, mul-div-mul-left}
+use Prim.Native.Nat.{ℕ, _+_, _*_, _/_, _%_, _<_}
+use native.Mathlib.Nat.{mod-lt, mod-eq-of-lt, add-sub-cancel, div-add-mod', div-lt-iff-lt-mul, mul-div-mul-left}
 use native.Mathlib.Omega.{arith}
-use lib.Arith.{digits-lt}
-use lib.Dec.{eqb, leb, leb→le}
-use lib.ListN.{getD}
+use lib.Dec.{eqb}
 use Rattle.maths.specs.Tests.{both}
 use Rattle.maths.specs.Lists.{span}
-use Rattle.maths.proofs.Tests.{below-at}
+use Rattle.maths.specs.Lists.{keep}
+use Rattle.maths.specs.Tally.{tally}
 use Rattle.maths.proofs.Lists.{table-same}
+use Rattle.maths.proofs.Tally.{tally-keep}
 use Rattle.codes.specs.declared.«parity_iter».Place.{Place}
 use Rattle.codes.specs.declared.«parity_iter».Block.{Block}
 use Rattle.codes.specs.declared.«parity_iter».Block.the-variants.{Ends, Empty, Identity, Permutation}
 use Rattle.codes.specs.Tables.{prototypes}
-use Rattle.codes.specs.Codes.{codes, Known, Matrix, matrixOf, prototypeOf, rows, tables, bitsIn, checksIn}
+use Rattle.codes.specs.Codes.{codes, Known, matrixOf, prototypeOf, tables, bitsIn, checksIn}
 use Rattle.codes.specs.Blocks.{blockOf, blockAt, place, layered, cellBlocks, rowBlocks, lastRows}
 use Rattle.codes.specs.Edges.{edgeAt, columnOf, blockEdges, blocksOf, edges}
-use Rattle.matrices.specs.Counts.{tally, joins, count}
+use Rattle.codes.proofs.Columns.{column-inside}
+use Rattle.matrices.specs.Counts.{count}
 use Rattle.matrices.specs.Ccsds.{Cell, Term, permuted, cellOf, column, ones, entry}
 use Rattle.matrices.specs.Reading.{withLayer, read}
 use Rattle.matrices.proofs.Sizes.{sizeOf, sizes}
 use Rattle.matrices.proofs.Standard.{decoded, size-same}
-use Rattle.matrices.proofs.Counts.{tally-flat, tally-keep, keep, joined}
+use Rattle.matrices.proofs.Rows.{count-laid}
 use Rattle.matrices.proofs.Once.{once}
-
--- a block's columns lie in it
-column-low : (x : Matrix) → zero < x .size → x .size ≡ 4 * (x .size / 4) → (k : Block) (i : ℕ) → columnOf x k i < x .size
-column-low x pos four Ends i = pos
-column-low x pos four Empty i = pos
-column-low x pos four (Identity v) i = mod-lt (i + v) pos
-column-low x pos four (Permutation v) i =
-    let q = x .size / 4 in
-    let y = getD (x .theta) v 0 + i / q in
-    let w = getD (getD (x .phi) (i / q) []) v 0 + i in
-    let some : zero < q = omega arith in
-    let low : y % 4 * q + w % q < 4 * q = digits-lt (mod-lt y (omega arith)) (mod-lt w some) in
-    omega (arith, mul-comm q (y % 4))
 
 -- the blocks of one cell are those of its layers
 abbrev inCell : ℕ → ℕ → ℕ → List Place
@@ -56,15 +44,13 @@ module _ (code : ℕ) (h : Known code) (i j : ℕ) where
   -- an edge for each such place in the cell
   count-blocks : (r c : ℕ) → i < sizeOf code → j < sizeOf code
       → count (edges code) (r * sizeOf code + i) (c * sizeOf code + j) ≡ tally inPlace (inCell code r c)
-  unfolding count edges blockEdges edgeAt
+  unfolding edges blockEdges edgeAt
   count-blocks r c hi hj =
       let m = sizeOf code in
       let x = matrixOf code in
-      let z = sizes code h in
       let at : Place → Block = blockAt (prototypeOf code) in
-      tally-flat (joins (r * m + i) (c * m + j)) (blockEdges x)
-      (λ p. both (eqb (p .row) r) (both (eqb (p .col) c) (inPlace p))) (blocksOf code)
-      (λ p. joined m (p .row) (p .col) (columnOf x (at p)) r c i j hi hj (λ i _. column-low x (z .large) (z .quarters) (at p) i))
+      count-laid m (λ p. p .row) (λ p. p .col) (λ p. columnOf x (at p)) (blocksOf code) r i c j hi hj
+      (λ p. column-inside x i (sizes code h .four) hi (at p))
       ∙ tally-keep (λ p. eqb (p .row) r) (λ p. both (eqb (p .col) c) (inPlace p)) (blocksOf code)
       ∙ tally-keep (λ p. eqb (p .col) c) inPlace (keep (λ p. eqb (p .row) r) (blocksOf code))
 
@@ -76,7 +62,9 @@ module _ (code : ℕ) (h : Known code) (i j : ℕ) where
   permuted-same : (v : ℕ) → columnOf (matrixOf code) (Permutation v) i ≡ column code (sizeOf code) (permuted (v + 1)) i
   permuted-same v =
       let m = sizeOf code in
-      let e = ap (λ (n : ℕ). 4 * i / n) (sizes code h .quarters) ∙ mul-div-mul-left i (m / 4) (omega arith) in
+      let four = sizes code h .four in
+      let quarters : m ≡ 4 * (m / 4) = omega arith in
+      let e = ap (λ (n : ℕ). 4 * i / n) quarters ∙ mul-div-mul-left i (m / 4) (omega arith) in
       rw (e, add-sub-cancel v 1)
 
   -- a layer's place and its term
@@ -92,20 +80,13 @@ module _ (code : ℕ) (h : Known code) (i j : ℕ) where
   cell-same r c =
       layer-same (place r c 0) _ refl _ _ (layer-same (place r c 1) _ refl _ _ (layer-same (place r c 2) _ refl [] [] refl))
 
--- no code has more than 4 by 11 blocks
-within : (code : ℕ) → Known code → (checksIn code ≤ 4 * sizeOf code) × (bitsIn code ≤ 11 * sizeOf code)
-unfolding rows
-within code h = (
-  leb→le (checksIn code) (4 * sizeOf code) (below-at codes (λ k. leb (checksIn k) (4 * sizeOf k)) tt code h),
-  leb→le (bitsIn code) (11 * sizeOf code) (below-at codes (λ k. leb (bitsIn k) (11 * sizeOf k)) tt code h),
-)
-
+-- an entry of the standard's matrix is the number of edges that join its check and its bit
 pub entry-edges : (code a v : ℕ) → Known code → a < checksIn code → v < bitsIn code → count (edges code) a v ≡ entry code a v
 unfolding entry
 entry-edges code a v h ha hv =
     let m = sizeOf code in
-    let pos = sizes code h .large in
-    let w = within code h in
+    let z = sizes code h in
+    let pos = z .large in
     let r = a / m in
     let c = v / m in
     let i = a % m in

@@ -1,42 +1,85 @@
--- How the sizes of a code's blocks, circulants and edges go together. Assumes nothing.
-use mathlib.Core.Path.{_≡_, refl, _∙_}
-use Prim.Native.Nat.{ℕ, zero, _*_, _/_, _<_}
-use lib.Dec.{ltb, ltb→lt}
+-- How the sizes of a code's blocks, circulants, edges and bytes go together. Assumes nothing.
+use mathlib.Core.Path.{_≡_, _∙_}
+use Prim.Native.Nat.{ℕ, _-_, _*_, _/_, _%_, _≤_, _<_}
+use native.Mathlib.Omega.{arith}
+use lib.Dec.{ltb, leb, ltb→lt, leb→le}
 use lib.ListN.{length}
-use Rattle.maths.specs.Lists.{span}
-use Rattle.maths.proofs.Tests.{below-at}
-use Rattle.maths.proofs.Lists.{span-length, span-same, flatMap-length}
+use Rattle.maths.proofs.Tests.{below-at, below-eq}
+use Rattle.maths.proofs.Lists.{span-length, flatMap-length}
 use Rattle.codes.specs.Tables.{prototypes}
-use Rattle.codes.specs.Codes.{codes, Known, matrixOf, rowOf, rows, tables}
+use Rattle.codes.specs.Codes.{codes, Known, tcCodes, TC, matrixOf, rowOf, rows, tables, bitsIn, checksIn}
 use Rattle.codes.specs.Blocks.{blockOf, cellBlocks, rowBlocks, lastRows}
 use Rattle.codes.specs.Edges.{edgeAt, blockEdges, blocksOf, edges}
+use Rattle.codes.proofs.Codes.{sized}
 use Rattle.matrices.specs.Circulants.{circulantOf}
 
 abbrev pub sizeOf : ℕ → ℕ
 sizeOf code = matrixOf code .size
 
--- a block is made of circulants and of quarters, and the edges of blocks
+-- the blocks of b that the data, the checks and the bits of a code make
+abbrev pub dataBlocks : ℕ → ℕ
+dataBlocks code = rowOf code .k / circulantOf code
+
+abbrev pub checkBlocks : ℕ → ℕ
+checkBlocks code = checksIn code / circulantOf code
+
+abbrev pub bitBlocks : ℕ → ℕ
+bitBlocks code = bitsIn code / circulantOf code
+
+-- how many bytes of parity a code has
+abbrev pub parityBytes : ℕ → ℕ
+parityBytes code = (rowOf code .n - rowOf code .k) / 8
+
 pub record Sizes (code : ℕ) : Type 0 where
-  pub some : zero < circulantOf code
+  -- a block is some circulants wide and high, and a multiple of 4
+  pub some : 0 < circulantOf code
   pub whole : sizeOf code ≡ sizeOf code / circulantOf code * circulantOf code
-  pub large : zero < sizeOf code
-  pub quarters : sizeOf code ≡ 4 * (sizeOf code / 4)
-  pub total : length (blocksOf code) * sizeOf code ≡ rowOf code .«paritycheck_sum»
+  pub large : 0 < sizeOf code
+  pub four : sizeOf code % 4 ≡ 0
+  -- a matrix has at most 4 by 11 blocks
+  pub rows-fit : checksIn code ≤ 4 * sizeOf code
+  pub columns-fit : bitsIn code ≤ 11 * sizeOf code
+  -- data, checks and bits are made of circulants
+  pub data-blocks : dataBlocks code * circulantOf code ≡ rowOf code .k
+  pub check-blocks : checkBlocks code * circulantOf code ≡ checksIn code
+  pub bit-blocks : bitBlocks code * circulantOf code ≡ bitsIn code
+  -- data and parity are whole bytes
+  pub data-bytes : rowOf code .k / 8 * 8 ≡ rowOf code .k
+  pub parity-bytes : parityBytes code * 8 ≡ rowOf code .n - rowOf code .k
+  pub data-fits : rowOf code .k ≤ rowOf code .n
 
 pub sizes : (code : ℕ) → Known code → Sizes code
-unfolding span rows tables prototypes blocksOf lastRows rowBlocks cellBlocks blockOf
+unfolding rows
 sizes code h =
+    let size = sized code h in
     record {
       some = ltb→lt 0 (circulantOf code) (below-at codes (λ c. ltb 0 (circulantOf c)) tt code h);
-      whole = span-same sizeOf (λ c. sizeOf c / circulantOf c * circulantOf c) codes refl code h;
-      large = ltb→lt 0 (sizeOf code) (below-at codes (λ c. ltb 0 (sizeOf c)) tt code h);
-      quarters = span-same sizeOf (λ c. 4 * (sizeOf c / 4)) codes refl code h;
-      total = span-same (λ c. length (blocksOf c) * sizeOf c) (λ c. rowOf c .«paritycheck_sum») codes refl code h;
+      whole = below-eq codes sizeOf (λ c. sizeOf c / circulantOf c * circulantOf c) tt code h;
+      large = omega (arith, size .low);
+      four = size .four;
+      rows-fit = leb→le (checksIn code) (4 * sizeOf code) (below-at codes (λ c. leb (checksIn c) (4 * sizeOf c)) tt code h);
+      columns-fit = leb→le (bitsIn code) (11 * sizeOf code) (below-at codes (λ c. leb (bitsIn c) (11 * sizeOf c)) tt code h);
+      data-blocks = below-eq codes (λ c. dataBlocks c * circulantOf c) (λ c. rowOf c .k) tt code h;
+      check-blocks = below-eq codes (λ c. checkBlocks c * circulantOf c) checksIn tt code h;
+      bit-blocks = below-eq codes (λ c. bitBlocks c * circulantOf c) bitsIn tt code h;
+      data-bytes = below-eq codes (λ c. rowOf c .k / 8 * 8) (λ c. rowOf c .k) tt code h;
+      parity-bytes = below-eq codes (λ c. parityBytes c * 8) (λ c. rowOf c .n - rowOf c .k) tt code h;
+      data-fits = leb→le (rowOf code .k) (rowOf code .n) (below-at codes (λ c. leb (rowOf c .k) (rowOf c .n)) tt code h);
     }
 
+-- every bit of a TC code is sent, in whole bytes
+pub tc-bits : (code : ℕ) → TC code → 8 * (rowOf code .n / 8) ≡ bitsIn code
+unfolding rows
+tc-bits code tc = below-eq tcCodes (λ c. 8 * (rowOf c .n / 8)) bitsIn tt code tc
+
+block-count : (code : ℕ) → Known code → length (blocksOf code) * sizeOf code ≡ rowOf code .«paritycheck_sum»
+unfolding rows tables prototypes blocksOf lastRows rowBlocks cellBlocks blockOf
+block-count code h = below-eq codes (λ c. length (blocksOf c) * sizeOf c) (λ c. rowOf c .«paritycheck_sum») tt code h
+
+-- "E edges in all"
 pub edge-count : (code : ℕ) → Known code → length (edges code) ≡ rowOf code .«paritycheck_sum»
 unfolding edges blockEdges
 edge-count code h =
     flatMap-length (blockEdges (matrixOf code)) (sizeOf code) (blocksOf code)
     (λ p. span-length (edgeAt (matrixOf code) p) 0 (sizeOf code))
-    ∙ sizes code h .total
+    ∙ block-count code h

@@ -7,8 +7,8 @@ use lib.Dec.{T, eqb, eqb→eq}
 use lib.ListN.{length, getD}
 use Rattle.maths.specs.Tests.{all, below}
 use Rattle.maths.specs.Lists.{span}
-use Rattle.maths.proofs.Tests.{below-at, all-at}
-use Rattle.maths.proofs.Lists.{span-same, table-same}
+use Rattle.maths.proofs.Tests.{below-at, below-eq, all-at}
+use Rattle.maths.proofs.Lists.{table-same}
 use Rattle.codes.specs.Tables.{prototypes}
 use Rattle.codes.specs.Codes.{codes, Known, rows, tables, prototypeOf, bitsIn, checksIn}
 use Rattle.codes.specs.Blocks.{blockOf}
@@ -24,14 +24,13 @@ decoded = table-same (λ code. read (prototypeOf code)) cellOf codes 4 11 refl
 
 -- blocks are as large as the standard says
 pub size-same : (code : ℕ) → Known code → standardOf code .size ≡ sizeOf code
-unfolding span standards rows
-size-same code h = span-same (λ k. standardOf k .size) sizeOf codes refl code h
+unfolding standards rows
+size-same code h = below-eq codes (λ k. standardOf k .size) sizeOf tt code h
 
 -- the rows of blocks make up the checks
 pub rows-size : (code : ℕ) → Known code → length (standardOf code .rows) * standardOf code .size ≡ checksIn code
-unfolding span standards rows tc128 tc256 tc512 half before zipWith twoThirds threeQuarters fourFifths
-rows-size code h =
-    span-same (λ k. length (standardOf k .rows) * standardOf k .size) checksIn codes refl code h
+unfolding standards rows tc128 tc256 tc512 half before zipWith twoThirds threeQuarters fourFifths
+rows-size code h = below-eq codes (λ k. length (standardOf k .rows) * standardOf k .size) checksIn tt code h
 
 -- and the blocks of each row the bits
 wide : ℕ → List Cell → Bool

@@ -3,9 +3,9 @@ use mathlib.Core.List.{List, [], _∷_, _++_, zipWith}
 use Prim.Native.Nat.{ℕ, _+_, _-_, _*_, _/_, _%_}
 use lib.Dec.{eqb}
 use lib.ListN.{getD}
+use Rattle.maths.specs.Tally.{tally}
 use Rattle.codes.specs.Tables.{thetas}
 use Rattle.codes.specs.Codes.{phiOf}
-use Rattle.matrices.specs.Counts.{tally}
 
 -- a term of a block: the identity turned right by a number of columns, or the permutation with a number
 pub data Term : Type 0 where

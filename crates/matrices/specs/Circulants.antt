@@ -1,5 +1,5 @@
 -- A matrix as b by b circulants. Assumes nothing.
-use mathlib.Core.List.{List, [], _∷_, flatMap}
+use mathlib.Core.List.{List, [], flatMap}
 use Prim.Native.Nat.{ℕ, _+_, _*_, _/_, _%_}
 use lib.ListN.{getD}
 use Rattle.maths.specs.Lists.{span}

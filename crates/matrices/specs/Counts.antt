@@ -1,15 +1,11 @@
 -- How many edges join a check and a bit. Assumes nothing.
 use mathlib.Core.Bool.{Bool}
-use mathlib.Core.List.{List, [], _∷_}
-use Prim.Native.Nat.{ℕ, _+_}
+use mathlib.Core.List.{List}
+use Prim.Native.Nat.{ℕ}
 use lib.Dec.{eqb}
-use Rattle.maths.specs.Tests.{pick, both}
+use Rattle.maths.specs.Tests.{both}
+use Rattle.maths.specs.Tally.{tally}
 use Rattle.codes.specs.Edges.{Edge}
-
--- how many elements pass a test
-abbrev pub tally : {A : Type 0} → (A → Bool) → List A → ℕ
-tally f [] = 0
-tally f (x ∷ xs) = pick (f x) 1 0 + tally f xs
 
 -- the edge joins check a and bit v
 abbrev pub joins : ℕ → ℕ → Edge → Bool

@@ -30,11 +30,13 @@ generatorBit w words c j = getD words (c * w + j / 64) 0 / 2 ^ (63 - j % 64) % 2
 abbrev pub generator : ℕ → ℕ → ℕ → ℕ
 generator code = generatorBit ((rowOf code .n - rowOf code .k) / 64) (generatorOf code)
 
--- the frame of a code
+-- the parity bits and the frame of a code
+abbrev pub parityOf : ℕ → (ℕ → ℕ) → ℕ → ℕ
+parityOf code = parity (circulantOf code) (rowOf code .k) (generator code)
+
 abbrev pub frameOf : ℕ → (ℕ → ℕ) → ℕ → ℕ
 frameOf code = frame (circulantOf code) (rowOf code .k) (generator code)
 
 -- the bytes of the frame of a message of k/8 bytes
 unfoldable pub encodedBytes : ℕ → List ℕ → List ℕ
-encodedBytes code msg =
-    msg ++ pack (parity (circulantOf code) (rowOf code .k) (generator code) (bitAt msg)) ((rowOf code .n - rowOf code .k) / 8)
+encodedBytes code msg = msg ++ pack (parityOf code (bitAt msg)) ((rowOf code .n - rowOf code .k) / 8)
