@@ -5,7 +5,7 @@ ghost use Prim.Native.Nat.{_<_, _≤_, _%_};
 ghost use Rattle.codes.specs.Codes.{made};
 ghost use Rattle.codes.specs.Blocks.{blockOf, cellsFrom, blocksFrom, headOf};
 ghost use Rattle.codes.specs.Edges.{identityColumn, permutationColumn};
-ghost use Rattle.codes.specs.Walk.{Inside, startAt, begunOf, nextOf, nextStep, stepOf};
+ghost use Rattle.codes.specs.Walk.{Inside, matrix, startAt, begunOf, nextOf, nextStep, stepOf};
 use crate::ACCEPTED;
 use crate::CODES;
 use crate::UNKNOWN_CODE;
@@ -170,9 +170,9 @@ fn start_at(code: usize, f: Found) -> ParityIter
 }
 
 impl ParityIter {
-    // The walk after this edge.
-    fn next(self) -> ParityIter
-        requires { ⌜ Inside self ⌝ }
+    // The walk after this edge, in blocks of the size m.
+    fn next(self, m: usize) -> ParityIter
+        requires { ⌜ Inside self × (m ≡ matrix self .size) ⌝ }
         ensures { λ r. ⌜ r ≡ nextOf self ⌝ }
     {
         let code = self.code;
@@ -180,7 +180,7 @@ impl ParityIter {
         let col = self.col;
         let l = self.layer;
         let i = self.i + 1;
-        if i < row_of(code).submatrix_size {
+        if i < m {
             ParityIter {
                 code,
                 row,
@@ -195,15 +195,14 @@ impl ParityIter {
     }
 
     // The edge of this walk, in column x of its block.
-    fn edge(self, x: usize) -> Step
-        requires { ⌜ Inside self × (x < 512) ⌝ }
+    fn edge(self, m: usize, x: usize) -> Step
+        requires { ⌜ Inside self × ((m ≡ matrix self .size) × (x < 512)) ⌝ }
         ensures { λ r. ⌜ r ≡ nextStep self x ⌝ }
     {
-        let m = row_of(self.code).submatrix_size;
         Step::Next(
             Check(self.row * m + self.i),
             Bit(self.col * m + x),
-            self.next(),
+            self.next(m),
         )
     }
 
@@ -236,14 +235,11 @@ impl ParityIter {
         match k {
             Block::Ends => Step::Finished,
             Block::Empty => Step::Finished,
-            Block::Identity(v) => self.edge(identity_column(m, v, i)),
-            Block::Permutation(v) => self.edge(permutation_column(
+            Block::Identity(v) => self.edge(m, identity_column(m, v, i)),
+            Block::Permutation(v) => self.edge(
                 m,
-                &THETA_K,
-                &phi_of(code),
-                v,
-                i,
-            )),
+                permutation_column(m, &THETA_K, &phi_of(code), v, i),
+            ),
         }
     }
 }

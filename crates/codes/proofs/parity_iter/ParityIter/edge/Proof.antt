@@ -11,23 +11,22 @@ unfolding nextStep
 edge-spec =
     tie.close
     (tie.spec
-    (λ c κs. search needs)
     (λ c.
-    let r = c .before in
-    let h = sized _ (r .before .pre .0 .code-low) .high in
-    rw (r .row-of .ensures) (omega (arith, product-low (r .before .args .self .row) _ (omega (arith, r .before .pre .0 .row-low)) h)))
+    let s = c .before in
+    let p = s .pre .0 in
+    rw (s .pre .1 .0) (omega (arith, product-low (s .args .self .row) _ (omega (arith, p .row-low)) (sized _ (p .code-low) .high))))
     (λ c.
-    let r = c .before .before in
-    let p = r .before .pre .0 in
+    let s = c .before .before in
+    let p = s .pre .0 in
     let h = sized _ (p .code-low) .high in
-    rw (r .row-of .ensures) (omega (arith, product-low (r .before .args .self .row) _ (omega (arith, p .row-low)) h, h, p .i-low)))
+    rw (s .pre .1 .0) (omega (arith, product-low (s .args .self .row) _ (omega (arith, p .row-low)) h, h, p .i-low)))
     (λ c.
-    let r = c .before .before .before in
-    let h = sized _ (r .before .pre .0 .code-low) .high in
-    rw (r .row-of .ensures) (omega (arith, product-low _ _ (r .before .pre .0 .col-low) h)))
+    let s = c .before .before .before in
+    let p = s .pre .0 in
+    rw (s .pre .1 .0) (omega (arith, product-low _ _ (p .col-low) (sized _ (p .code-low) .high))))
     (λ c.
-    let r = c .before .before .before in
-    let h = sized _ (r .before .pre .0 .code-low) .high in
-    rw (r .row-of .ensures) (omega (arith, product-low _ _ (r .before .pre .0 .col-low) h, r .before .pre .1)))
+    let s = c .before .before .before in
+    let p = s .pre .0 in
+    rw (s .pre .1 .0) (omega (arith, product-low _ _ (p .col-low) (sized _ (p .code-low) .high), s .pre .1 .1)))
     (λ c κs. search needs)
-    (λ c. rw (c .before .before .before .before .row-of .ensures, c .next .ensures)))
+    (λ c. rw (c .before .before .before .before .pre .1 .0, c .next .ensures)))

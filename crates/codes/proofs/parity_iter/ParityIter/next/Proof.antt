@@ -1,12 +1,10 @@
 use mathlib.Core.Path.{_∙_, ap}
 use mathlib.Core.List.{List}
 use Prim.Native.Nat.{ℕ, _+_}
-use native.Mathlib.Omega.{arith}
 use borrow.Author.Needs.{needs}
 use borrow.Author.Tests.{lt-ltb, le-ltb}
 use Rattle.codes.specs.Blocks.{headOf, blocksFrom}
 use Rattle.codes.specs.Walk.{startAt, nextOf}
-use Rattle.codes.proofs.Codes.{sized}
 use Rattle.codes.proofs.parity_iter.ParityIter.next.Statement.{statement}
 use Rattle.codes.proofs.parity_iter.ParityIter.next.Tie as tie
 
@@ -15,18 +13,17 @@ unfolding nextOf
 next-spec =
     tie.close
     (tie.spec
-    (λ c. omega (arith, sized _ (c .before .pre .code-low) .high, c .before .pre .i-low))
-    (λ c κs. search needs)
+    (λ c. search needs)
     (λ c κs. search needs)
     (λ c. search needs)
     (λ c κs. search needs)
     (λ c κs. search needs)
-    (λ c. simp (lt-ltb _ _ (rw (c .before .before .row-of .ensures) at (c .if1 .taken))))
+    (λ c. simp (lt-ltb _ _ (rw (c .before .before .pre .1) at (c .if1 .taken))))
     (λ c.
     let p = c .before .before .before in
-    let r = p .before .before .before in
-    let w = r .before .before .args .self in
-    simp (le-ltb _ _ (rw (r .row-of .ensures) at (p .before .if1 .left)))
+    let s = p .before .before .before in
+    let w = s .args .self in
+    simp (le-ltb _ _ (rw (s .pre .1) at (p .before .if1 .left)))
     (c .start-at .ensures
     ∙ ap (startAt _)
     (c .before .layer .ensures

@@ -106,14 +106,14 @@ step-spec =
     (λ c κs. let a = at (c .before .before .before) in (high a, (small a _ (c .before .k .given .1), low a)))
     (λ c κs.
     let a = at (c .before .before .before .before) in
-    (a .inside, column-low a _ (c .before .before .k .given .1) _ (rw (← a .size) (c .identity-column .ensures))))
+    (a .inside, (a .size, column-low a _ (c .before .before .k .given .1) _ (rw (← a .size) (c .identity-column .ensures)))))
     (λ c. search needs)
     (λ c κs. search needs)
     (λ c κs. let a = at (c .before .before .before .before .before .before) in (high a, (fourth a, (small a _ (c .before .before .before .before .k2 .given .1), low a))))
     (λ c κs.
     let a = at (c .before .before .before .before .before .before .before) in
     let k = c .before .before .before .before .before .k2 .given in
-    (a .inside, column-low a _ (k .1) _ (c .permutation-column .ensures ∙ permuted a (k .0 .0) (c .before .before .phi-of .ensures))))
+    (a .inside, (a .size, column-low a _ (k .1) _ (c .permutation-column .ensures ∙ permuted a (k .0 .0) (c .before .before .phi-of .ensures)))))
     (λ c. let b = c .before .before in rw (step-at (at b) _ (c .enum-told .given .1)))
     (λ c. let b = c .before .before in rw (step-at (at b) _ (c .enum-told2 .given .1)))
     (λ c.
