@@ -11,3 +11,6 @@ pub mod Bytes
 pub mod Distance
 pub mod Triangle
 pub mod Budget
+pub mod Parts
+pub mod Tested
+pub mod Fronts

@@ -1,0 +1,78 @@
+-- The sizes of the codes' frames, and a frame of parity bits that is the code's. Assumes nothing.
+use mathlib.Core.List.{List, [], _++_, append-nil}
+use mathlib.Core.Path.{_≡_, refl, sym, ap, ap₂, _∙_}
+use Prim.Native.Nat.{ℕ, _+_, _-_, _*_, _/_, _%_, _≤_, _<_}
+use native.Mathlib.Omega.{arith}
+use lib.Dec.{T, leb, leb→le}
+use lib.ListN.{length, take, drop, drop-of-length-le}
+use lib.Seq.{getD-take}
+use Rattle.maths.specs.Lists.{span}
+use Rattle.maths.specs.Bits.{bitAt}
+use Rattle.maths.specs.Bytes.{pack}
+use Rattle.maths.proofs.Tests.{below-at}
+use Rattle.maths.proofs.Lists.{span-same}
+use Rattle.codes.specs.declared.CodeParams.{CodeParams}
+use Rattle.codes.specs.Words.{generators}
+use Rattle.codes.specs.Codes.{codes, Known, rows, rowOf, generatorOf}
+use Rattle.matrices.specs.Circulants.{circulantOf}
+use Rattle.matrices.specs.Frames.{parity, generator, generatorBit, encodedBytes}
+use Rattle.encoder.specs.Rotation.{placed}
+use Rattle.encoder.specs.Sizes.{Sized}
+use Rattle.encoder.proofs.Packed.{pack-ext}
+use Rattle.encoder.proofs.Staged.{parity-ext}
+
+-- the parity bits of a code
+abbrev parityOf : ℕ → ℕ
+parityOf code = rowOf code .n - rowOf code .k
+
+pub data-low : (code : ℕ) → Known code → rowOf code .k ≤ rowOf code .n
+unfolding rows
+data-low code h = leb→le (rowOf code .k) (rowOf code .n) (below-at codes (λ c. leb (rowOf c .k) (rowOf c .n)) tt code h)
+
+bytes-all : (code : ℕ) → Known code → rowOf code .n / 8 ≡ rowOf code .k / 8 + parityOf code / 8
+unfolding rows span
+bytes-all code h = span-same (λ c. rowOf c .n / 8) (λ c. rowOf c .k / 8 + parityOf c / 8) codes refl code h
+
+data-whole : (code : ℕ) → Known code → rowOf code .k / 8 * 8 ≡ rowOf code .k
+unfolding rows span
+data-whole code h = span-same (λ c. rowOf c .k / 8 * 8) (λ c. rowOf c .k) codes refl code h
+
+pub sized : (code : ℕ) → Known code → (s : List ℕ) → length s ≡ rowOf code .n / 8 → Sized s (generatorOf code) (rowOf code .k) (parityOf code) (circulantOf code)
+unfolding rows generators span
+sized code h s e =
+    record {
+      some = leb→le 8 (circulantOf code) (below-at codes (λ c. leb 8 (circulantOf c)) tt code h);
+      bytes = span-same circulantOf (λ c. circulantOf c / 8 * 8) codes refl code h;
+      rows = span-same (λ c. rowOf c .k) (λ c. rowOf c .k / circulantOf c * circulantOf c) codes refl code h;
+      blocks = span-same parityOf (λ c. parityOf c / circulantOf c * circulantOf c) codes refl code h;
+      words = span-same parityOf (λ c. parityOf c / 64 * 64) codes refl code h;
+      whole = e ∙ bytes-all code h;
+      generator = span-same (λ c. length (generatorOf c)) (λ c. rowOf c .k / circulantOf c * (parityOf c / 64)) codes refl code h;
+    }
+
+-- the parity bits placed behind the data are the frame
+pub placed-frame : (code : ℕ) → Known code → (s : List ℕ) → length s ≡ rowOf code .n / 8
+    → placed s (rowOf code .k / 8) (parityOf code / 8) (parity (circulantOf code) (rowOf code .k) (generator code) (bitAt s))
+    ≡ encodedBytes code (take (rowOf code .k / 8) s)
+unfolding placed encodedBytes
+placed-frame code h s e =
+    let k8 = rowOf code .k / 8 in
+    let r8 = parityOf code / 8 in
+    let rest : drop (k8 + r8) s ≡ [] = drop-of-length-le s {i = k8 + r8} (omega (arith, bytes-all code h)) in
+    ap₂ (λ (x y : List ℕ). take k8 s ++ (x ++ y))
+    (pack-ext _ _ r8 (λ j l. ap (λ (x : ℕ). x % 2) (parity-ext (circulantOf code) (rowOf code .k) (generator code) (bitAt s) (bitAt (take k8 s)) same j)))
+    rest
+    ∙ ap (λ (x : List ℕ). take k8 s ++ x) (append-nil _)
+  where
+    same : (i : ℕ) → i < rowOf code .k → bitAt s i ≡ bitAt (take (rowOf code .k / 8) s) i
+    same i l = rw (getD-take (rowOf code .k / 8) s (i / 8) 0 (omega (arith, data-whole code h)))
+
+-- ---- by a row and words that are the code's
+module _ (code : ℕ) (h : Known code) (row : CodeParams) (g : List ℕ) (is-row : row ≡ rowOf code) (is-words : g ≡ generatorOf code) (s : List ℕ) (e : length s ≡ rowOf code .n / 8) where
+  pub known-sized : Sized s g (row .k) (row .n - row .k) (row .«circulant_size»)
+  known-sized = rw (is-row, is-words) (sized code h s e)
+
+  pub known-frame : {t : List ℕ}
+      → t ≡ placed s (row .k / 8) ((row .n - row .k) / 8) (parity (row .«circulant_size») (row .k) (generatorBit ((row .n - row .k) / 64) g) (bitAt s))
+      → t ≡ encodedBytes code (take (rowOf code .k / 8) s)
+  known-frame f = (rw (is-row, is-words) at f) ∙ placed-frame code h s e

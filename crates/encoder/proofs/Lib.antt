@@ -1,0 +1,12 @@
+pub mod Packed
+pub mod Placed
+pub mod Fitting
+pub mod Turning
+pub mod Turned
+pub mod Adding
+pub mod Stages
+pub mod Staged
+pub mod Offsets
+pub mod Known
+pub mod Copying
+pub mod Answered

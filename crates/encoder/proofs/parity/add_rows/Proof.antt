@@ -1,0 +1,65 @@
+use mathlib.Core.Logic.{⊎-elim}
+use mathlib.Core.Path.{sym, _∙_}
+use Prim.Native.Nat.{_+_, _*_, _-_, _≤_, _<_}
+use native.Mathlib.Omega.{arith}
+use denote.Ref.{now}
+use Rattle.matrices.specs.Frames.{generatorBit}
+use Rattle.encoder.proofs.Fitting.{block-low, bit-low}
+use Rattle.encoder.proofs.Adding.{Rowed, rowed-none, rowed-set, rowed-clear, rowed-all}
+use borrow.Author.Needs.{needs}
+use Rattle.encoder.proofs.parity.add_rows.Statement.{statement}
+use Rattle.encoder.proofs.parity.add_rows.Tie as tie
+
+abbrev Inv-loop : tie.InvT-loop
+Inv-loop codeword₀ at g o b rows words c₀ codeword c = (c ≤ rows) × Rowed codeword₀ at (words * 8) b (generatorBit words g) o c codeword
+
+abbrev μ-loop : tie.MeasureT-loop
+μ-loop codeword₀ at g o b rows words c₀ codeword c = rows - c
+
+-- the data bit of the row is before the parity part
+low : (c : tie.In-loop Inv-loop μ-loop) → let a = c .before .before .before .before .args in c .before .loop .c * a .b + a .o < a .at * 8
+low c = let s = c .before .before .before .before in bit-low (s .pre .1) (c .before .loop .c) (s .args .o) (c .loop-test .taken) (s .pre .0)
+
+pub add-rows-spec : {M : Type 1} → statement M
+add-rows-spec =
+    tie.close
+    (tie.spec
+    Inv-loop
+    μ-loop
+    (λ c.
+    let s = c .before .before in
+    let a = s .args in
+    (omega arith, rowed-none (now (a .codeword)) (a .at) (a .words * 8) (a .b) (generatorBit (a .words) (now (a .g))) (a .o) (s .pre .1 .parity-low) (λ i. c .before .slice-known .given i .fits)))
+    (λ c. omega (arith, low c, c .before .before .before .before .pre .1 .fits))
+    (λ c. omega (arith, low c, c .before .before .before .before .pre .1 .fits))
+    (λ c. omega (arith, low (c .before), c .before .before .loop .inv .1 .long, c .before .before .before .before .before .pre .1 .parity-low))
+    (λ c κs. search needs)
+    (λ c κs.
+    let i = c .before .before .before .before in
+    let s = i .before .before .before .before in (
+      omega (arith, i .before .loop .inv .1 .long, s .pre .1 .parity-low),
+      omega (arith, block-low (i .before .loop .c) (s .args .rows) (s .args .words) (i .loop-test .taken), s .pre .1 .words-low),
+    ))
+    (λ c. search needs)
+    (λ c. search needs)
+    (λ c.
+    let i = c .before .before .before in
+    let s = i .before .before .before .before in
+    let a = s .args in
+    let cw = now (a .codeword) in
+    let G = generatorBit (a .words) (now (a .g)) in
+    let fit = s .pre .1 .parity-low in
+    let r = i .before .loop .inv .1 in
+    let bit = c .before .bit-of .ensures in (
+      omega (arith, i .loop-test .taken),
+      ⊎-elim
+          (λ w. rowed-set cw (a .at) (a .words * 8) (a .b) G (a .o) fit r (low i) (sym bit ∙ w .0 .taken) (w .5 ∙ w .2 .ensures))
+          (λ w. rw (w .1) (rowed-clear cw (a .at) (a .words * 8) (a .b) G (a .o) fit r (low i) (λ e. w .0 .left (bit ∙ e))))
+          (c .if1 .came),
+    ))
+    (λ c. c .before .loop .inv .1 .long)
+    (λ c.
+    let t = c .before in
+    let s = t .before .before .before in
+    let a = s .args in
+    rowed-all (now (a .codeword)) (a .at) (a .words * 8) (a .b) (generatorBit (a .words) (now (a .g))) (a .o) (s .pre .1 .parity-low) (t .loop .inv .1) (a .rows) (t .loop .inv .0) (c .loop-test .left)))

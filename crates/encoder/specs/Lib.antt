@@ -1,0 +1,4 @@
+pub mod Rotation
+pub mod Rows
+pub mod Sizes
+pub mod Outcomes

@@ -1,0 +1,22 @@
+-- How the parts of a frame and of a generator lie, as the functions over them ask it. Assumes nothing.
+use mathlib.Core.List.{List}
+use mathlib.Core.Path.{_≡_}
+use Prim.Native.Nat.{ℕ, _+_, _*_, _/_, _^_, _≤_, _<_}
+use lib.ListN.{length}
+
+-- rows of b data bits before byte at, the words of a row after it, and as many words in each row of the generator
+pub record Laid (s g : List ℕ) (at b rows words : ℕ) : Type 0 where
+  pub data-low : rows * b ≤ at * 8
+  pub parity-low : at + words * 8 ≤ length s
+  pub words-low : rows * words ≤ length g
+  pub fits : at * 8 < 2 ^ 64
+
+-- k data bits and r parity bits in blocks of b bits, whole bytes each, and a row of r / 64 words for each block of data
+pub record Sized (s g : List ℕ) (k r b : ℕ) : Type 0 where
+  pub some : 8 ≤ b
+  pub bytes : b ≡ b / 8 * 8
+  pub rows : k ≡ k / b * b
+  pub blocks : r ≡ r / b * b
+  pub words : r ≡ r / 64 * 64
+  pub whole : length s ≡ k / 8 + r / 8
+  pub generator : length g ≡ k / b * (r / 64)

@@ -1,0 +1,110 @@
+// The byte encoder. (Rust: encoder.rs)
+ghost use mathlib.Core.Path.{_≡_};
+ghost use mathlib.Core.List.{_++_};
+ghost use Prim.Native.Nat.{_/_, _≤_};
+ghost use lib.ListN.{length, take, drop};
+ghost use Rattle.codes.specs.Codes.{Known, rowOf};
+ghost use Rattle.matrices.specs.Frames.{encodedBytes};
+ghost use Rattle.encoder.specs.Outcomes.{encoded, encodeOutcome, copyEncodeOutcome};
+
+mod parity;
+mod rotation;
+
+use codes::ACCEPTED;
+use codes::CODES;
+use codes::CodeParams;
+use codes::UNKNOWN_CODE;
+use codes::WRONG_READ;
+use codes::WRONG_WRITTEN;
+use codes::compact_generators::TC128_G;
+use codes::compact_generators::TC256_G;
+use codes::compact_generators::TC512_G;
+use codes::compact_generators::TM1280_G;
+use codes::compact_generators::TM1536_G;
+use codes::compact_generators::TM2048_G;
+use codes::compact_generators::TM5120_G;
+use codes::params;
+use parity::put_parity;
+
+// A constant has no memory of its own: the generator is a local, made once for a call and lent.
+fn encode_known(code: usize, row: CodeParams, codeword: &mut [u8])
+    requires { ⌜ (Known code) × ((row ≡ rowOf code) × (length (now codeword) ≡ rowOf code .n / 8)) ⌝ }
+    ensures { λ _. ⌜ now (codeword .exit) ≡ encodedBytes code (take (rowOf code .k / 8) (now (codeword .entry))) ⌝ }
+{
+    let k = row.k;
+    let r = row.n - row.k;
+    let b = row.circulant_size;
+    match code {
+        0 => {
+            let g = TC128_G;
+            put_parity(codeword, &g, k, r, b)
+        }
+        1 => {
+            let g = TC256_G;
+            put_parity(codeword, &g, k, r, b)
+        }
+        2 => {
+            let g = TC512_G;
+            put_parity(codeword, &g, k, r, b)
+        }
+        3 => {
+            let g = TM1280_G;
+            put_parity(codeword, &g, k, r, b)
+        }
+        4 => {
+            let g = TM1536_G;
+            put_parity(codeword, &g, k, r, b)
+        }
+        5 => {
+            let g = TM2048_G;
+            put_parity(codeword, &g, k, r, b)
+        }
+        _ => {
+            let g = TM5120_G;
+            put_parity(codeword, &g, k, r, b)
+        }
+    }
+}
+
+// Encodes in place: the data stands in the first k/8 bytes of the codeword.
+pub fn encode(code: usize, codeword: &mut [u8]) -> u8
+    ensures { λ r. ⌜ encoded r (now (codeword .exit)) ≡ encodeOutcome code (now (codeword .entry)) ⌝ }
+{
+    if code >= CODES {
+        return UNKNOWN_CODE;
+    }
+    let row = params(code).row;
+    if codeword.len() != row.n / 8 {
+        return WRONG_WRITTEN;
+    }
+    encode_known(code, row, codeword);
+    ACCEPTED
+}
+
+// Copies the data to the front of the codeword.
+fn copy_in(data: &[u8], codeword: &mut [u8])
+    requires { ⌜ length (now «data») ≤ length (now codeword) ⌝ }
+    ensures { λ _. ⌜ now (codeword .exit) ≡ now («data» .entry) ++ drop (length (now («data» .entry))) (now (codeword .entry)) ⌝ }
+{
+    for i in 0..data.len() {
+        codeword[i] = data[i];
+    }
+}
+
+// Encodes data that stands elsewhere: it is copied first.
+pub fn copy_encode(code: usize, data: &[u8], codeword: &mut [u8]) -> u8
+    ensures { λ r. ⌜ encoded r (now (codeword .exit)) ≡ copyEncodeOutcome code (now («data» .entry)) (now (codeword .entry)) ⌝ }
+{
+    if code >= CODES {
+        return UNKNOWN_CODE;
+    }
+    let row = params(code).row;
+    if data.len() != row.k / 8 {
+        return WRONG_READ;
+    }
+    if codeword.len() != row.n / 8 {
+        return WRONG_WRITTEN;
+    }
+    copy_in(data, codeword);
+    encode(code, codeword)
+}

@@ -1,0 +1,20 @@
+// The rotation of one block of bytes.
+ghost use mathlib.Core.Path.{_≡_};
+ghost use Prim.Native.Nat.{_+_, _≤_};
+ghost use lib.ListN.{length};
+ghost use Rattle.encoder.specs.Rotation.{rotated};
+
+// Rotates the len bytes from at on left by one bit, from the last byte to the first.
+pub(crate) fn rotate_block(codeword: &mut [u8], at: usize, len: usize)
+    requires { ⌜ (1 ≤ len) × (at + len ≤ length (now codeword)) ⌝ }
+    ensures { λ _. ⌜ now (codeword .exit) ≡ rotated (now (codeword .entry)) at len ⌝ }
+{
+    let mut carry = codeword[at] >> 7;
+    let mut i = len;
+    while 0 < i {
+        i -= 1;
+        let x = codeword[at + i];
+        codeword[at + i] = (x << 1) | carry;
+        carry = x >> 7;
+    }
+}

@@ -1,0 +1,6 @@
+pub mod Soft
+pub mod Confidence
+pub mod MinSum
+pub mod Hard
+pub mod Outcomes
+pub mod Working

@@ -1,0 +1,160 @@
+// Min-sum decoding on confidences of 8 bits, and the conversions between them and hard bits. (Rust: decoder.rs)
+ghost use mathlib.Core.List.{[], flatMap};
+ghost use mathlib.Core.Path.{_≡_};
+ghost use Prim.Native.Nat.{_-_, _*_};
+ghost use lib.ListN.{length};
+ghost use Rattle.codes.specs.Codes.{Known, rowOf};
+ghost use Rattle.codes.specs.Runs.{runEdges, readRuns};
+ghost use Rattle.report.specs.Report.{ending};
+ghost use Rattle.min_sum.specs.Confidence.{i8};
+ghost use Rattle.min_sum.specs.MinSum.{decoded};
+ghost use Rattle.min_sum.specs.Outcomes.{left, decodeAnswer, finishedAs, decodeOutcome};
+ghost use Rattle.min_sum.specs.Working.{layoutOf, ranOver, Fine, Sized, Ready, Lent};
+
+pub mod llrs;
+pub mod min_sum;
+pub mod soft;
+
+use codes::ACCEPTED;
+use codes::CODES;
+use codes::CodeParams;
+use codes::UNKNOWN_CODE;
+use codes::WRONG_READ;
+use codes::WRONG_SIGNS;
+use codes::WRONG_WORKING;
+use codes::WRONG_WRITTEN;
+use codes::params;
+use codes::runs::runs_of;
+use llrs::pack;
+use min_sum::Found;
+use min_sum::Layout;
+use min_sum::clear;
+use min_sum::fill;
+use min_sum::run_passes;
+use report::Report;
+use report::finished;
+use report::refused;
+
+// The number of the first test that a decode fails, or 0; of each buffer its length.
+fn refusal(
+    code: usize,
+    row: CodeParams,
+    llrs: usize,
+    output: usize,
+    working: usize,
+    working_u8: usize,
+) -> u8
+    requires { ⌜ row ≡ rowOf code ⌝ }
+    ensures { λ r. ⌜ r ≡ decodeAnswer code llrs output working «working_u8» ⌝ }
+{
+    if code >= CODES {
+        return UNKNOWN_CODE;
+    }
+    if llrs != row.n {
+        return WRONG_READ;
+    }
+    if output != row.output_len {
+        return WRONG_WRITTEN;
+    }
+    if working != row.decode_ms_working_len {
+        return WRONG_WORKING;
+    }
+    if working_u8 != row.decode_ms_working_u8_len {
+        return WRONG_SIGNS;
+    }
+    ACCEPTED
+}
+
+// The working buffer of a code.
+fn layout(row: CodeParams) -> Layout
+    requires { ⌜ Fine row ⌝ }
+    ensures { λ r. ⌜ r ≡ layoutOf row ⌝ }
+{
+    let bits = row.n + row.punctured_bits;
+    Layout {
+        edges: row.paritycheck_sum as usize,
+        bits,
+        checks: bits - row.k,
+    }
+}
+
+// The run of passes over the runs, with a byte for each check.
+fn decode_runs(
+    marks: &mut [u8],
+    runs: &[u16],
+    at: Layout,
+    llrs: &[i8],
+    output: &mut [u8],
+    working: &mut [i8],
+    maxiters: usize,
+) -> Found
+    requires { ⌜ Sized at (length (now working)) (length (now marks)) × (Ready at (readRuns (now runs)) (length (now llrs)) × (8 * length (now output) ≡ at .bits)) ⌝ }
+    ensures { λ r. ⌜ left (ending (r .success) (r .iters)) (now (output .exit)) (now (working .exit)) [] ≡ finishedAs i8 (ranOver (flatMap runEdges (readRuns (now (runs .entry)))) (at .checks) (at .bits - length (now (llrs .entry))) (now (llrs .entry)) maxiters) (length (now (working .entry))) 0 ⌝ }
+{
+    let sums = 2 * at.edges;
+    let minima = sums + at.bits;
+    clear(marks);
+    fill(working, 0);
+    let found = run_passes(working, marks, llrs, at, runs, maxiters);
+    pack(output, &working[sums..minima]);
+    fill(working, 0);
+    found
+}
+
+// The decoder on buffers of the right lengths. A byte for each check is its own; the sign buffer is only cleared.
+fn decode(
+    code: usize,
+    row: CodeParams,
+    llrs: &[i8],
+    output: &mut [u8],
+    working: &mut [i8],
+    working_u8: &mut [u8],
+    maxiters: usize,
+) -> Found
+    requires { ⌜ Lent code row (length (now llrs)) (length (now output)) (length (now working)) ⌝ }
+    ensures { λ r. ⌜ left (ending (r .success) (r .iters)) (now (output .exit)) (now (working .exit)) (now («working_u8» .exit)) ≡ finishedAs i8 (decoded i8 code (now (llrs .entry)) maxiters) (length (now (working .entry))) (length (now («working_u8» .entry))) ⌝ }
+{
+    let at = layout(row);
+    let checks = at.checks;
+    let runs = runs_of(code);
+    let triples = runs.triples;
+    let used = 3 * runs.count;
+    let mut marks = [0u8; 1536];
+    clear(working_u8);
+    decode_runs(
+        &mut marks[..checks],
+        &triples[..used],
+        at,
+        llrs,
+        output,
+        working,
+        maxiters,
+    )
+}
+
+// Min-sum on confidences of 8 bits, at most maxiters passes.
+pub fn decode_ms_i8(
+    code: usize,
+    llrs: &[i8],
+    output: &mut [u8],
+    working: &mut [i8],
+    working_u8: &mut [u8],
+    maxiters: usize,
+) -> Report
+    ensures { λ r. ⌜ left r (now (output .exit)) (now (working .exit)) (now («working_u8» .exit)) ≡ decodeOutcome i8 code (now (llrs .entry)) (now (output .entry)) (now (working .entry)) (now («working_u8» .entry)) maxiters ⌝ }
+{
+    let row = params(code).row;
+    let answer = refusal(
+        code,
+        row,
+        llrs.len(),
+        output.len(),
+        working.len(),
+        working_u8.len(),
+    );
+    if answer != ACCEPTED {
+        return refused(answer);
+    }
+    let found = decode(code, row, llrs, output, working, working_u8, maxiters);
+    finished(found.success, found.iters)
+}
