@@ -1,8 +1,9 @@
 -- What follows from the sizes of a frame's parts. Assumes nothing.
 use mathlib.Core.List.{List}
+use mathlib.Core.Logic.{_⊎_, inl, inr}
 use mathlib.Core.Path.{_≡_, sym, ap, _∙_}
 use Prim.Native.Nat.{ℕ, zero, suc, _+_, _*_, _/_, _^_, _≤_, _<_}
-use native.Mathlib.Nat.{suc-mul, mul-assoc, mul-le-mul-right}
+use native.Mathlib.Nat.{mul-zero, suc-mul, mul-assoc, mul-le-mul-right, eq-zero-or-pos}
 use native.Mathlib.Omega.{arith}
 use lib.ListN.{length}
 use Rattle.encoder.specs.Sizes.{Laid, Sized}
@@ -20,8 +21,18 @@ module _ {s g : List ℕ} {k r b : ℕ} (z : Sized s g k r b) where
   whole : (n : ℕ) → n ≡ n / b * b → n ≡ n / b * (b / 8) * 8
   whole n e = e ∙ ap (λ (x : ℕ). n / b * x) (z .bytes) ∙ sym (mul-assoc (n / b) (b / 8) 8)
 
+  -- the parity bits are in some block, so that a block has a byte
+  pub block-some : 8 ≤ b
+  block-some = go (eq-zero-or-pos (b / 8))
+    where
+      go : (b / 8 ≡ zero) ⊎ (zero < b / 8) → 8 ≤ b
+      go (inr h) = omega arith
+      go (inl h) =
+          let none : r / b * (b / 8) ≡ 0 = ap (λ (x : ℕ). r / b * x) h ∙ mul-zero (r / b) in
+          absurd (omega (arith, z .some, whole r (z .blocks)))
+
   pub some-bits : zero < b
-  some-bits = omega (arith, z .some)
+  some-bits = omega (arith, block-some)
 
   pub block-bits : b / 8 * 8 ≡ b
   block-bits = sym (z .bytes)

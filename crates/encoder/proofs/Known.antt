@@ -1,14 +1,13 @@
 -- The sizes of the codes' frames, and a frame of parity bits that is the code's. Assumes nothing.
 use mathlib.Core.List.{List, [], _++_, append-nil}
-use mathlib.Core.Path.{_≡_, refl, sym, ap, ap₂, _∙_}
+use mathlib.Core.Path.{_≡_, refl, ap, ap₂, _∙_}
 use Prim.Native.Nat.{ℕ, _+_, _-_, _*_, _/_, _%_, _≤_, _<_}
 use native.Mathlib.Omega.{arith}
-use lib.Dec.{T, leb, leb→le}
+use lib.Dec.{leb, leb→le}
 use lib.ListN.{length, take, drop, drop-of-length-le}
 use lib.Seq.{getD-take}
 use Rattle.maths.specs.Lists.{span}
 use Rattle.maths.specs.Bits.{bitAt}
-use Rattle.maths.specs.Bytes.{pack}
 use Rattle.maths.proofs.Tests.{below-at}
 use Rattle.maths.proofs.Lists.{span-same}
 use Rattle.codes.specs.declared.CodeParams.{CodeParams}
@@ -41,7 +40,7 @@ pub sized : (code : ℕ) → Known code → (s : List ℕ) → length s ≡ rowO
 unfolding rows generators span
 sized code h s e =
     record {
-      some = leb→le 8 (circulantOf code) (below-at codes (λ c. leb 8 (circulantOf c)) tt code h);
+      some = leb→le 8 (parityOf code) (below-at codes (λ c. leb 8 (parityOf c)) tt code h);
       bytes = span-same circulantOf (λ c. circulantOf c / 8 * 8) codes refl code h;
       rows = span-same (λ c. rowOf c .k) (λ c. rowOf c .k / circulantOf c * circulantOf c) codes refl code h;
       blocks = span-same parityOf (λ c. parityOf c / circulantOf c * circulantOf c) codes refl code h;

@@ -2,9 +2,9 @@ pub mod Packed
 pub mod Placed
 pub mod Fitting
 pub mod Turning
-pub mod Turned
+pub mod Blocks
 pub mod Adding
-pub mod Stages
+pub mod Horner
 pub mod Staged
 pub mod Offsets
 pub mod Known

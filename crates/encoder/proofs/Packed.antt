@@ -1,6 +1,6 @@
 -- Bytes made of bits: by their parts, by their bits, and of a sum modulo 2. Assumes nothing.
 use mathlib.Core.List.{List, [], _∷_, _++_}
-use mathlib.Core.Path.{_≡_, refl, sym, ap, ap₂, _∙_}
+use mathlib.Core.Path.{_≡_, refl, ap, _∙_}
 use Prim.Native.Nat.{ℕ, zero, suc, _+_, _-_, _*_, _/_, _%_, _^_, _<_}
 use native.Mathlib.Nat.{zero-add}
 use native.Mathlib.Omega.{arith}
@@ -9,7 +9,6 @@ use lib.Bits.{bitXor, xor-shr, xor-add-and}
 use lib.ListN.{getD}
 use lib.Pow.{shr-shr}
 use Rattle.maths.specs.Lists.{span}
-use Rattle.maths.specs.Sums.{sumN}
 use Rattle.maths.specs.Bits.{bitAt}
 use Rattle.maths.specs.Bytes.{byte, pack}
 use Rattle.maths.proofs.Lists.{span-split, span-ext}

@@ -6,7 +6,7 @@ use native.Mathlib.Nat.{add-zero, add-assoc, mod-mod}
 use native.Mathlib.Numerals.{add-one}
 use native.Mathlib.Omega.{arith}
 use lib.ListN.{length, getD, take, drop, set, length-set, length-append, length-drop, take-append-drop, List·getD-append}
-use lib.Seq.{length-take-le, take-append-le, take-take, take-at, drop-at, drop-append-add, drop-drop, getD-drop, getD-take, take-suc, drop-cons, set-at, set-getD}
+use lib.Seq.{length-take-le, take-append-le, take-take, take-at, drop-append-add, drop-drop, getD-drop, getD-take, take-suc, drop-cons, set-at, set-getD}
 use Rattle.maths.specs.Lists.{span}
 use Rattle.maths.specs.Bits.{bitAt}
 use Rattle.maths.specs.Bytes.{byte, pack}

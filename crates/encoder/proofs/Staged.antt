@@ -1,6 +1,6 @@
 -- The parity part of a byte string, offset by offset. Assumes nothing.
 use mathlib.Core.List.{List}
-use mathlib.Core.Path.{_≡_, refl, sym, ap, ap₂, _∙_}
+use mathlib.Core.Path.{_≡_, refl, sym, ap, _∙_}
 use Prim.Native.Nat.{ℕ, zero, suc, _+_, _*_, _/_, _%_, _≤_, _<_}
 use native.Mathlib.Nat.{mod-lt, mod-mod, div-lt-iff-lt-mul}
 use native.Mathlib.Numerals.{add-one}
@@ -16,7 +16,7 @@ use Rattle.encoder.specs.Rows.{added, rowsAt, blocksTurned}
 use Rattle.encoder.proofs.Placed.{length-placed, bit-before, bit-within, placed-again, placed-ext}
 use Rattle.encoder.proofs.Fitting.{block-low}
 use Rattle.encoder.proofs.Adding.{sums}
-use Rattle.encoder.proofs.Stages.{stage, stage-all}
+use Rattle.encoder.proofs.Horner.{stage, stage-all}
 
 -- the len bytes from at on hold the parity bits after o offsets
 pub record Staged (s : List ℕ) (at len b rows : ℕ) (G : ℕ → ℕ → ℕ) (o : ℕ) (t : List ℕ) : Type 0 where

@@ -24,7 +24,7 @@ use codes::compact_generators::TM1536_G;
 use codes::compact_generators::TM2048_G;
 use codes::compact_generators::TM5120_G;
 use codes::params;
-use parity::put_parity;
+use parity::encode_parity;
 
 // A constant has no memory of its own: the generator is a local, made once for a call and lent.
 fn encode_known(code: usize, row: CodeParams, codeword: &mut [u8])
@@ -37,31 +37,31 @@ fn encode_known(code: usize, row: CodeParams, codeword: &mut [u8])
     match code {
         0 => {
             let g = TC128_G;
-            put_parity(codeword, &g, k, r, b)
+            encode_parity(codeword, &g, k, r, b)
         }
         1 => {
             let g = TC256_G;
-            put_parity(codeword, &g, k, r, b)
+            encode_parity(codeword, &g, k, r, b)
         }
         2 => {
             let g = TC512_G;
-            put_parity(codeword, &g, k, r, b)
+            encode_parity(codeword, &g, k, r, b)
         }
         3 => {
             let g = TM1280_G;
-            put_parity(codeword, &g, k, r, b)
+            encode_parity(codeword, &g, k, r, b)
         }
         4 => {
             let g = TM1536_G;
-            put_parity(codeword, &g, k, r, b)
+            encode_parity(codeword, &g, k, r, b)
         }
         5 => {
             let g = TM2048_G;
-            put_parity(codeword, &g, k, r, b)
+            encode_parity(codeword, &g, k, r, b)
         }
         _ => {
             let g = TM5120_G;
-            put_parity(codeword, &g, k, r, b)
+            encode_parity(codeword, &g, k, r, b)
         }
     }
 }

@@ -88,7 +88,7 @@ fn rotate_blocks(codeword: &mut [u8], at: usize, len: usize, blocks: usize)
 }
 
 // Puts the r parity bits behind the k data bits: each offset adds its rows, and the left turn of every block stands for the right turn of the rows to come.
-pub(crate) fn put_parity(codeword: &mut [u8], g: &[u64], k: usize, r: usize, b: usize)
+pub(crate) fn encode_parity(codeword: &mut [u8], g: &[u64], k: usize, r: usize, b: usize)
     requires { ⌜ Sized (now codeword) (now g) k r b ⌝ }
     ensures { λ _. ⌜ now (codeword .exit) ≡ placed (now (codeword .entry)) (k / 8) (r / 8) (parity b k (generatorBit (r / 64) (now (g .entry))) (bitAt (now (codeword .entry)))) ⌝ }
 {

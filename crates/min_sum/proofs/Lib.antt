@@ -6,3 +6,7 @@ pub mod Pass
 pub mod Rows
 pub mod Answers
 pub mod Ran
+pub mod Packed
+pub mod Conversions
+pub mod Marginals
+pub mod Success

@@ -97,7 +97,7 @@ module _ (a m k : ℕ) where
       odd-after es (suc n) y w ey ly (both-right (inRange m k e) (all (inRange m k) es) t) ∙ odd-step e es n x w ew low (ℕ-discrete (e .check) a)
 
 -- two tests that agree at each number
-below-same : (n : ℕ) (f g : ℕ → Bool) → ((k : ℕ) → k < n → f k ≡ g k) → below n f ≡ below n g
+pub below-same : (n : ℕ) (f g : ℕ → Bool) → ((k : ℕ) → k < n → f k ≡ g k) → below n f ≡ below n g
 below-same zero f g h = refl
 below-same (suc n) f g h = rw (h n (omega arith), below-same n f g (λ k l. h k (omega arith)))
 

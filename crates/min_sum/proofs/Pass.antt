@@ -19,6 +19,7 @@ use Rattle.min_sum.specs.declared.«min_sum».Layout.{Layout}
 use Rattle.min_sum.specs.Confidence.{i8}
 use Rattle.min_sum.specs.MinSum.{Link, Messages, numbered, addMessage, takeMessage, hardBits, restarted, renewed, pass, met, turn}
 use Rattle.min_sum.specs.Working.{negativeIn, oddIn, held, Checked, heldChecked, takeChecked, Sized}
+use Rattle.min_sum.proofs.Marginals.{taken-marginals}
 use Rattle.min_sum.proofs.Parity.{checked-messages, even-holds}
 
 -- the part that was put in
@@ -59,8 +60,7 @@ module _ (l : Layout) (w : List ℤ) (z : length w ≡ 2 * l .edges + l .bits + 
         before (l .edges) (l .edges) (omega arith),
         sums,
         after (a + l .bits) (l .checks) (omega arith) (omega arith),
-        after (a + l .bits + l .checks) (l .checks) (omega arith) (omega arith),
-      )
+        after (a + l .bits + l .checks) (l .checks) (omega arith) (omega arith))
 
   -- the minima and signs restart
   pub renew-held : (s : List ℕ) {s₁ : List ℕ} {w₁ : List ℤ}
@@ -86,17 +86,11 @@ module _ (l : Layout) (w : List ℤ) (z : length w ≡ 2 * l .edges + l .bits + 
         (rw add-zero at (in-it 0 (omega arith))),
         in-it m (omega arith),
         es,
-        map-replicate negativeIn m 0,
-      )
-
-kept-marginals : (ls : List Link) (s : Messages ℤ) → fold (takeMessage i8) ls s .marginals ≡ s .marginals
-unfolding fold takeMessage
-kept-marginals [] s = refl
-kept-marginals (e ∷ ls) s = kept-marginals ls (takeMessage i8 e s)
+        map-replicate negativeIn m 0)
 
 -- the pass
 module _ (l : Layout) (es : List Edge) (llrs : List ℤ) (w : List ℤ) (s : List ℕ) (z : Sized l (length w) (length s)) (few : length llrs ≤ l .bits)
-    (ranged : T (all (inRange (l .checks) (l .bits)) es)) where
+  (ranged : T (all (inRange (l .checks) (l .bits)) es)) where
   checked-held : (x : List ℤ) (t : List ℕ) → heldChecked l x t .messages ≡ held l x t
   unfolding heldChecked
   checked-held x t = refl
@@ -127,7 +121,7 @@ module _ (l : Layout) (es : List Edge) (llrs : List ℤ) (w : List ℤ) (s : Lis
       sym (checked-held w₅ s₂) ∙ ap (λ (y : Checked). y .messages) e₅ ∙ checked-messages ls x ∙ ap (fold (takeMessage i8) ls) (checked-held w₄ s₁) in
       let passed : held l w₅ s₂ ≡ pass i8 es m p llrs (held l w s) = taken ∙ ap (fold (takeMessage i8) ls) (fresh ∙ ap (renewed i8 m) added) in
       let sums : held l w₅ s₂ .marginals ≡ x .messages .marginals =
-      ap (λ (y : Messages ℤ). y .marginals) taken ∙ kept-marginals ls (held l w₄ s₁) ∙ sym (ap (λ (y : Messages ℤ). y .marginals) (checked-held w₄ s₁)) in
+      ap (λ (y : Messages ℤ). y .marginals) taken ∙ taken-marginals i8 ls (held l w₄ s₁) ∙ sym (ap (λ (y : Messages ℤ). y .marginals) (checked-held w₄ s₁)) in
       let none : x .odd ≡ replicate m false = checked-odd w₄ s₁ ∙ rw s₀ (map-replicate oddIn m 0) in
       let odds : map oddIn s₂ ≡ fold takeChecked ls x .odd = sym (checked-odd w₅ s₂) ∙ ap (λ (y : Checked). y .odd) e₅ in
       let answer : r ≡ holds es m (hardBits i8 (held l w₅ s₂ .marginals)) =

@@ -1,5 +1,4 @@
 use lib.Bits.{and-mask, mask-lt}
-use borrow.Author.Needs.{needs}
 use Rattle.encoder.proofs.parity.low_byte.Statement.{statement}
 use Rattle.encoder.proofs.parity.low_byte.Tie as tie
 

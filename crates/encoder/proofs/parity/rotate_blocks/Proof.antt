@@ -4,7 +4,7 @@ use native.Mathlib.Omega.{arith}
 use denote.Ref.{now}
 use Rattle.encoder.proofs.Placed.{Grown, grown-none, grown-all}
 use Rattle.encoder.proofs.Fitting.{block-low}
-use Rattle.encoder.proofs.Turned.{turnedAll, block-more}
+use Rattle.encoder.proofs.Blocks.{turnedAll, block-more}
 use borrow.Author.Needs.{needs}
 use Rattle.encoder.proofs.parity.rotate_blocks.Statement.{statement}
 use Rattle.encoder.proofs.parity.rotate_blocks.Tie as tie

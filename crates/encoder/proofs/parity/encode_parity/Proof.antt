@@ -2,12 +2,12 @@ use mathlib.Core.Path.{_∙_}
 use Prim.Native.Nat.{_/_, _-_}
 use native.Mathlib.Omega.{arith}
 use Rattle.matrices.specs.Frames.{generatorBit}
-use Rattle.encoder.proofs.Fitting.{blocks-bytes, part-low}
+use Rattle.encoder.proofs.Fitting.{block-some, blocks-bytes, part-low}
 use Rattle.encoder.proofs.Staged.{Staged}
 use Rattle.encoder.proofs.Offsets.{cleared-long, offsets-none, offset-laid, offset-long, offset-more, offsets-all}
 use borrow.Author.Needs.{needs}
-use Rattle.encoder.proofs.parity.put_parity.Statement.{statement}
-use Rattle.encoder.proofs.parity.put_parity.Tie as tie
+use Rattle.encoder.proofs.parity.encode_parity.Statement.{statement}
+use Rattle.encoder.proofs.parity.encode_parity.Tie as tie
 
 abbrev Inv-loop : tie.InvT-loop
 Inv-loop codeword₀ g k r b at rows words len blocks o₀ codeword o = Staged codeword₀ at (r / 8) b rows (generatorBit words g) o codeword
@@ -15,14 +15,14 @@ Inv-loop codeword₀ g k r b at rows words len blocks o₀ codeword o = Staged c
 abbrev μ-loop : tie.MeasureT-loop
 μ-loop codeword₀ g k r b at rows words len blocks o₀ codeword o = b - o
 
-pub put-parity-spec : {M : Type 1} → statement M
-put-parity-spec =
+pub encode-parity-spec : {M : Type 1} → statement M
+encode-parity-spec =
     tie.close
     (tie.spec
     Inv-loop
     μ-loop
-    (λ c. omega (arith, c .before .before .pre .some))
-    (λ c. omega (arith, c .before .before .pre .some))
+    (λ c. omega (arith, block-some (c .before .before .pre)))
+    (λ c. omega (arith, block-some (c .before .before .pre)))
     (λ c κs. part-low (c .before .before .before .pre))
     (λ c. offsets-none (c .before .before .before .before .before .before .pre) (c .before .before .clear .ensures))
     (λ c κs.
@@ -33,7 +33,7 @@ put-parity-spec =
     let w = c .before .before .before in
     let t = w .before .before .before in
     let s = t .before .before .before .before .before .before .before in (
-      omega (arith, s .pre .some),
+      omega (arith, s .pre .some, block-some (s .pre)),
       omega (arith, part-low (s .pre), blocks-bytes (s .pre), offset-long (s .pre) (t .before .before .before .clear .ensures) (t .loop .inv) (w .add-rows .ensures)),
     ))
     (λ c. search needs)

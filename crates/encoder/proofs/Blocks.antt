@@ -1,14 +1,13 @@
 -- Blocks that are rotated one after the other. Assumes nothing.
 use mathlib.Core.List.{List}
-use mathlib.Core.Path.{_≡_, refl, sym, ap, _∙_}
-use Prim.Native.Nat.{ℕ, _+_, _*_, _/_, _%_, _≤_, _<_}
+use mathlib.Core.Path.{_≡_, sym, ap, _∙_}
+use Prim.Native.Nat.{ℕ, _+_, _*_, _%_, _<_}
 use native.Mathlib.Nat.{suc-mul, mul-assoc}
 use native.Mathlib.Numerals.{add-one}
 use native.Mathlib.Omega.{arith}
 use lib.Arith.{digits-div, digits-mod}
-use lib.ListN.{length}
 use Rattle.maths.specs.Bits.{bitAt}
-use Rattle.encoder.specs.Rotation.{placed, bitsFrom, turned, rotated}
+use Rattle.encoder.specs.Rotation.{bitsFrom, turned, rotated}
 use Rattle.encoder.specs.Rows.{blocksTurned}
 use Rattle.encoder.proofs.Fitting.{block-low}
 use Rattle.encoder.proofs.Placed.{placed-ext, Grown, grown-more, grown-bit}
