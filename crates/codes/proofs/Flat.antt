@@ -160,7 +160,7 @@ unfolding within-test
 runs-solid code h = all-right (within (checksIn code) (bitsIn code)) (λ r. ltb 0 (r .size)) (runs code) (below-at codes (λ k. all (within-test k) (runs k)) all-within code h)
 
 -- the edges of a run that lies within are in range
-run-ranged : (m n : ℕ) (r : Run) → T (within m n r) → T (all (inRange m n) (runEdges r))
+pub run-ranged : (m n : ℕ) (r : Run) → T (within m n r) → T (all (inRange m n) (runEdges r))
 unfolding runEdges
 run-ranged m n r t =
     let a = leb→le (r .check + r .size) m (both-left (leb (r .check + r .size) m) (leb (r .bit + r .size) n) t) in

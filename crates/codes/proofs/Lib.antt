@@ -10,3 +10,4 @@ pub mod Flat
 pub mod Sweep
 pub mod Tally
 pub mod Parity
+pub mod Light

@@ -5,14 +5,14 @@ use mathlib.Core.Path.{_≡_, refl, sym, ap, _∙_}
 use Prim.Native.Nat.{ℕ, _+_, _-_, _*_, _/_, _%_, _≤_, _<_}
 use native.Mathlib.Omega.{arith}
 use borrow.Author.Tests.{eqb-true, eq-eqb, ne-eqb, ltb-true, lt-ltb}
-use lib.Dec.{eqb}
+use lib.Dec.{T, eqb}
 use lib.ListN.{length, getD, take, replicate, length-append, length-replicate}
 use lib.Seq.{take-at, length-take-le}
-use Rattle.maths.specs.Tests.{pick, both, below}
+use Rattle.maths.specs.Tests.{pick, both, all, below}
 use Rattle.maths.specs.Bits.{bitAt}
-use Rattle.maths.specs.Lists.{largestOf}
-use Rattle.maths.proofs.Tests.{both-first, both-second, below-true, below-all}
-use Rattle.maths.proofs.Lists.{keep-all}
+use Rattle.maths.specs.Lists.{keep, largestOf}
+use Rattle.maths.proofs.Tests.{both-first, both-second, below-true, below-all, all-flatMap}
+use Rattle.maths.proofs.Lists.{keep-all, keep-holds}
 use Rattle.maths.proofs.Slices.{largest-none}
 use Rattle.bits.specs.Packed.{unpacked}
 use Rattle.bits.proofs.Packed.{unpacked-word}
@@ -20,14 +20,14 @@ use Rattle.codes.specs.declared.runs.Runs.{Runs}
 use Rattle.codes.specs.declared.ParamsAnswer.{ParamsAnswer}
 use Rattle.codes.specs.declared.meets.Met.{Met}
 use Rattle.codes.specs.Codes.{codes, Known, known, rowOf, paramsOf, bitsIn, checksIn}
-use Rattle.codes.specs.Edges.{Edge, edges}
+use Rattle.codes.specs.Edges.{Edge, inRange, edges}
 use Rattle.codes.specs.Runs.{Run, runEdges, runs, numbers, room, runsOf, readRuns, within, laid}
 use Rattle.codes.specs.Equations.{par, Hold, Meets, holds, meetsTest, syndromeOf, metOf, wordOf, Sizes}
 use Rattle.codes.specs.Sound.{Roomy}
 use Rattle.codes.proofs.Codes.{roomy}
 use Rattle.codes.proofs.Stored.{numbers-length}
 use Rattle.codes.proofs.Filled.{runs-known, fills}
-use Rattle.codes.proofs.Flat.{runs-flat, runs-within}
+use Rattle.codes.proofs.Flat.{runs-flat, runs-within, run-ranged}
 
 -- ---- the test and what it says
 pub holds-hold : (es : List Edge) (m : ℕ) (w : ℕ → ℕ) → holds es m w ≡ true → Hold es m w
@@ -51,6 +51,11 @@ read-numbers (r ∷ rs) = ap {B = List Run} (λ l. r ∷ l) (read-numbers rs)
 pub laid-runs : (code : ℕ) → Known code → laid (checksIn code) (bitsIn code) (numbers (runs code)) ≡ edges code
 unfolding laid
 laid-runs code h = rw (read-numbers (runs code), keep-all (within (checksIn code) (bitsIn code)) (runs code) (runs-within code h)) (runs-flat code)
+
+-- the edges of runs that lie within are in range
+pub laid-ranged : (m n : ℕ) (ns : List ℕ) → T (all (inRange m n) (laid m n ns))
+unfolding laid
+laid-ranged m n ns = all-flatMap (within m n) (inRange m n) runEdges (keep (within m n) (readRuns ns)) (keep-holds (within m n) (readRuns ns)) (run-ranged m n)
 
 pub runs-few : (code : ℕ) → Known code → length (runs code) ≤ room
 runs-few code h = omega (arith, ap length (runs-known code h), fills code h .few)

@@ -10,7 +10,7 @@ use lib.Dec.{T}
 use lib.ListN.{length, getD, length-append}
 use Rattle.maths.specs.Tests.{pick, all}
 use Rattle.maths.specs.Lists.{span, fold, keep}
-use Rattle.maths.proofs.Tests.{both-left, both-right}
+use Rattle.maths.proofs.Tests.{both-left, both-right, both-make, true-T}
 
 module _ {A : Type 0} where
   -- a span is the spans of its two parts
@@ -71,6 +71,16 @@ table-same f g l m n e i j k hi hj hk =
     let a = span-same (λ i. span (λ j. span (f i j) 0 n) 0 m) (λ i. span (λ j. span (g i j) 0 n) 0 m) l e i hi in
     let b = span-same (λ j. span (f i j) 0 n) (λ j. span (g i j) 0 n) m a j hj in
     span-same (f i j) (g i j) n b k hk
+
+-- the test holds of what is kept
+pub keep-holds : {A : Type 0} (f : A → Bool) (xs : List A) → T (all f (keep f xs))
+unfolding keep
+keep-holds f [] = tt
+keep-holds f (x ∷ xs) = go (f x) refl (keep-holds f xs)
+  where
+    go : (b : Bool) → f x ≡ b → T (all f (keep f xs)) → T (all f (pick b (x ∷ keep f xs) (keep f xs)))
+    go true e t = both-make (f x) (all f (keep f xs)) (true-T (f x) e) t
+    go false e t = t
 
 -- a test that holds of every element keeps them all
 pub keep-all : {A : Type 0} (f : A → Bool) (xs : List A) → T (all f xs) → keep f xs ≡ xs
