@@ -91,11 +91,12 @@ module _ {S : Type 0} (step : Edge → S → S) (a v l : ℕ) where
   unfolding runEdges
   run-first s = rw (sub-zero l)
 
--- ---- a loop over the runs of a list of numbers, of which run r stands at i: m is the length of the state at first, k at present
+-- ---- a loop over the runs of a list of numbers, of which run r stands at i: m and n are the lengths at first, k and l at present
 module _ (step : Edge → List ℕ → List ℕ) (ns : List ℕ) (m n i : ℕ) (s : List ℕ) {all : List ℕ} (inv : fold (overRun m n step) (drop i (readRuns ns)) s ≡ all) where
-  pub over-turn : {k : ℕ} {r : Run} {s′ : List ℕ} → k ≡ m → i < length ns / 3 → r ≡ getD (readRuns ns) i (run 0 0 0) → s′ ≡ overRun k n step r s
+  pub over-turn : {k l : ℕ} {r : Run} {s′ : List ℕ} → k ≡ m → l ≡ n → i < length ns / 3 → r ≡ getD (readRuns ns) i (run 0 0 0) → s′ ≡ overRun k l step r s
       → fold (overRun m n step) (drop (i + 1) (readRuns ns)) s′ ≡ all
-  over-turn ek h er es = fold-turn (overRun m n step) (readRuns ns) (run 0 0 0) i s inv (omega (arith, read-length ns)) (rw (← er, ← ek) es)
+  over-turn ek el h er es =
+      fold-turn (overRun m n step) (readRuns ns) (run 0 0 0) i s inv (omega (arith, read-length ns)) (rw (← er, ← ek, ← el) es)
 
   pub over-end : length ns / 3 ≤ i → s ≡ all
   over-end h = fold-end (overRun m n step) (readRuns ns) (run 0 0 0) i s inv (omega (arith, read-length ns))

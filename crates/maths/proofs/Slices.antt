@@ -88,6 +88,24 @@ module _ (f : ℕ → ℕ) (d : List ℕ) where
       let e : k ≡ length d = omega arith in
       inv ∙ rw (drop-of-length-le d h, e) (append-nil (span f 0 (length d)))
 
+-- ---- a list whose elements are replaced in place by f, one after the other
+abbrev pub mapTo : (ℕ → ℕ) → ℕ → List ℕ → List ℕ
+mapTo f i d = overwrite (λ j. f (getD d j 0)) i d
+
+module _ (f : ℕ → ℕ) (d : List ℕ) where
+  pub map-none : d ≡ mapTo f 0 d
+  map-none = overwrite-none (λ j. f (getD d j 0)) d
+
+  pub map-more : (i : ℕ) {l : List ℕ} {v : ℕ} → l ≡ mapTo f i d → i < length d → v ≡ f (getD l i 0) → set l i v ≡ mapTo f (i + 1) d
+  map-more i inv h e = overwrite-more (λ j. f (getD d j 0)) d i inv h (e ∙ rw (inv, overwrite-next (λ j. f (getD d j 0)) d i h))
+
+  pub map-all : (i : ℕ) {l : List ℕ} → l ≡ mapTo f i d → i ≤ length d → length d ≤ i → l ≡ map f d
+  map-all i inv g h = overwrite-all (λ j. f (getD d j 0)) d i inv g h ∙ span-map f d
+
+pub map-constant : (k : ℕ) (d : List ℕ) → map (λ (x : ℕ). k) d ≡ replicate (length d) k
+map-constant k [] = refl
+map-constant k (x ∷ d) = ap {B = List ℕ} (λ l. k ∷ l) (map-constant k d)
+
 -- ---- a loop that folds a list from its first element on: inv says that folding what is left over the present state gives all
 module _ {A S : Type 0} (step : A → S → S) (xs : List A) (d : A) (i : ℕ) (s : S) {all : S} (inv : fold step (drop i xs) s ≡ all) where
   pub fold-turn : {s′ : S} → i < length xs → s′ ≡ step (getD xs i d) s → fold step (drop (i + 1) xs) s′ ≡ all

@@ -42,7 +42,7 @@ syndrome-spec =
     let a = t .before .before .before .before .before .before .before .before .args in (
       omega arith,
       u .add-run .kept .1 .0 ∙ t .loop .inv .1,
-      over-turn (addBit (wordOf (now (a .bits)))) (now (a .triples)) _ (length (now (a .bits))) (t .loop .i) (t .loop .checks) (t .loop .inv .2) (t .loop .inv .1) (omega arith) (r .run-at .ensures) (u .add-run .ensures),
+      over-turn (addBit (wordOf (now (a .bits)))) (now (a .triples)) _ (length (now (a .bits))) (t .loop .i) (t .loop .checks) (t .loop .inv .2) (t .loop .inv .1) refl (omega arith) (r .run-at .ensures) (u .add-run .ensures),
     ))
     (λ c. let t = c .before in t .loop .inv .1 ∙ t .before .before .before .clear .kept .0)
     (λ c.

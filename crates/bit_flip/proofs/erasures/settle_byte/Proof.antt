@@ -1,0 +1,18 @@
+use mathlib.Core.Path.{_≡_}
+use Prim.Native.Nat.{_/_, _%_}
+use native.Mathlib.Omega.{arith}
+use borrow.Author.Tests.{lt-ltb, le-ltb}
+use Rattle.bit_flip.specs.Steps.{settleByte}
+use borrow.Author.Needs.{needs}
+use Rattle.bit_flip.proofs.erasures.settle_byte.Statement.{statement}
+use Rattle.bit_flip.proofs.erasures.settle_byte.Tie as tie
+
+pub settle-byte-spec : {M : Type 1} → statement M
+unfolding settleByte
+settle-byte-spec =
+    tie.close
+    (tie.spec
+    (λ c. rw (lt-ltb _ _ (c .if1 .taken)))
+    (λ c. let x = c .before .before .args .x in rw (le-ltb (x % 4) 2 (c .before .if1 .left), le-ltb 0 (x / 4) (omega arith)))
+    (λ c. let x = c .before .before .before .args .x in rw (le-ltb (x % 4) 2 (c .before .before .if1 .left), lt-ltb 0 (x / 4) (omega arith), lt-ltb (x / 4) 32 (c .if3 .taken)))
+    (λ c. let x = c .before .before .before .args .x in rw (le-ltb (x % 4) 2 (c .before .before .if1 .left), lt-ltb 0 (x / 4) (omega arith), le-ltb (x / 4) 32 (c .if3 .left))))

@@ -1,0 +1,15 @@
+use mathlib.Core.Path.{_≡_}
+use borrow.Author.Tests.{eq-eqb, ne-eqb}
+use Rattle.bit_flip.specs.Steps.{flipByte}
+use borrow.Author.Needs.{needs}
+use Rattle.bit_flip.proofs.passes.flip_byte.Statement.{statement}
+use Rattle.bit_flip.proofs.passes.flip_byte.Tie as tie
+
+pub flip-byte-spec : {M : Type 1} → statement M
+unfolding flipByte
+flip-byte-spec =
+    tie.close
+    (tie.spec
+    (λ c. search needs)
+    (λ c. rw (eq-eqb _ _ (c .if1 .taken)))
+    (λ c. rw (ne-eqb _ _ (c .if1 .left))))

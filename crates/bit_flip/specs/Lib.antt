@@ -1,0 +1,4 @@
+pub mod Flip
+pub mod Erasures
+pub mod Outcome
+pub mod Steps

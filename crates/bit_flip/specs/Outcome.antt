@@ -1,0 +1,56 @@
+-- What a call of decode_bf leaves behind. Assumes nothing.
+use mathlib.Core.Bool.{not}
+use mathlib.Core.List.{List, [], _∷_}
+use Prim.Native.Nat.{ℕ, _+_, _/_}
+use lib.Dec.{eqb}
+use lib.ListN.{length, replicate}
+use Rattle.maths.specs.Tests.{pick}
+use Rattle.maths.specs.Lists.{span}
+use Rattle.maths.specs.Bits.{bitAt}
+use Rattle.bits.specs.Packed.{byteOf}
+use Rattle.codes.specs.Answers.{Test, test, firstOf, unlike}
+use Rattle.codes.specs.Codes.{known, rowOf, bitsIn, checksIn}
+use Rattle.codes.specs.Edges.{edges}
+use Rattle.report.specs.declared.Report.{Report}
+use Rattle.report.specs.Report.{refusal, ending}
+use Rattle.bit_flip.specs.Flip.{passes}
+use Rattle.bit_flip.specs.Erasures.{Filled, erasurePasses, fromOn}
+
+-- its report, and both buffers that it writes
+pub record Outcome : Type 0 where
+  pub report : Report
+  pub output : List ℕ
+  pub working : List ℕ
+
+abbrev pub left : Report → List ℕ → List ℕ → Outcome
+left r o w = record { report = r; output = o; working = w }
+
+-- the tests of a call with buffers of these lengths, in order
+abbrev pub tests : ℕ → ℕ → ℕ → ℕ → List Test
+tests code input output working =
+    test (not (known code)) 1 ∷
+    test (unlike input (rowOf code .n / 8)) 2 ∷
+    test (unlike output (rowOf code .«output_len»)) 3 ∷
+    test (unlike working (rowOf code .«decode_bf_working_len»)) 4 ∷
+    []
+
+-- "The output starts as the input": the bits that were sent, and 0 for those that were not
+abbrev pub received : ℕ → List ℕ → List ℕ
+received code input = span (bitAt input) 0 (bitsIn code)
+
+-- the erasure passes over the bits that are not sent
+abbrev pub started : ℕ → List ℕ → ℕ → Filled
+started code input limit = erasurePasses (fromOn (rowOf code .n) (bitsIn code)) (edges code) (rowOf code .«punctured_bits») limit (received code input)
+
+-- an accepted call: the word that the passes leave, as bytes, and every working byte 0
+unfoldable pub decoded : ℕ → List ℕ → ℕ → Outcome
+decoded code input limit =
+    let s = started code input limit in
+    let e = passes (edges code) (checksIn code) limit (s .word) in
+    left (ending (e .success) (e .turns + s .count)) (span (byteOf (e .state)) 0 (rowOf code .«output_len»)) (replicate (bitsIn code) 0)
+
+-- "A refusal says success false, iterations 0, and changes no byte of any buffer."
+unfoldable pub outcome : ℕ → List ℕ → List ℕ → List ℕ → ℕ → Outcome
+outcome code input output working limit =
+    let answer = firstOf (tests code (length input) (length output) (length working)) in
+    pick (eqb answer 0) (decoded code input limit) (left (refusal answer) output working)

@@ -1,0 +1,103 @@
+// The main passes. A check's byte is 1 where it is broken; a bit's byte is the bit and, while scores are counted, twice its score.
+ghost use mathlib.Core.Path.{_≡_};
+ghost use mathlib.Core.List.{map};
+ghost use lib.ListN.{length};
+ghost use Rattle.maths.specs.Lists.{fold};
+ghost use Rattle.maths.specs.Budget.{end};
+ghost use Rattle.codes.specs.Runs.{run, laid};
+ghost use Rattle.codes.specs.Equations.{wordOf, syndromeOf};
+ghost use Rattle.codes.specs.Steps.{overRun};
+ghost use Rattle.bit_flip.specs.Flip.{flipped, passes};
+ghost use Rattle.bit_flip.specs.Steps.{twice, give, flipByte, Light, Bits};
+use codes::meets::syndrome;
+use codes::parity_iter::Bit;
+use codes::parity_iter::Check;
+use codes::runs::lies_within;
+use codes::runs::run_at;
+
+fn plus_twice(x: u8, y: u8) -> u8
+    ensures { λ r. ⌜ r ≡ twice x y ⌝ }
+{
+    std::num::wrapping_add_u8(std::num::wrapping_add_u8(x, y), y)
+}
+
+// Twice what the checks of a run have, to its bits; a run that does not lie within is passed over.
+fn give_run(checks: &[u8], bits: &mut [u8], check: Check, bit: Bit, size: usize)
+    ensures { λ _. ⌜ now (bits .exit) ≡ overRun (length (now (checks .entry))) (length (now (bits .entry))) (give (wordOf (now (checks .entry)))) (run (check .0) (bit .0) size) (now (bits .entry)) ⌝ }
+{
+    if !lies_within(check, bit, size, checks.len(), bits.len()) {
+        return;
+    }
+    let x = check.0;
+    let y = bit.0;
+    for i in 0..size {
+        bits[y + i] = plus_twice(bits[y + i], checks[x + i]);
+    }
+}
+
+pub(crate) fn give_runs(triples: &[u16], checks: &[u8], bits: &mut [u8])
+    ensures { λ _. ⌜ now (bits .exit) ≡ fold (give (wordOf (now (checks .entry)))) (laid (length (now (checks .entry))) (length (now (bits .entry))) (now (triples .entry))) (now (bits .entry)) ⌝ }
+{
+    let n = triples.len() / 3;
+    for i in 0..n {
+        let r = run_at(triples, i);
+        give_run(checks, bits, r.check, r.bit, r.size);
+    }
+}
+
+fn flip_byte(top: u8, x: u8) -> u8
+    ensures { λ r. ⌜ r ≡ flipByte top x ⌝ }
+{
+    if x / 2 == top { 1 - x % 2 } else { x % 2 }
+}
+
+fn flip_bytes(bits: &mut [u8], top: u8)
+    ensures { λ _. ⌜ now (bits .exit) ≡ map (flipByte top) (now (bits .entry)) ⌝ }
+{
+    for i in 0..bits.len() {
+        bits[i] = flip_byte(top, bits[i]);
+    }
+}
+
+// Every bit with the largest score is flipped; the checks are those that are broken.
+fn flip_pass(triples: &[u16], checks: &[u8], bits: &mut [u8])
+    requires { ⌜ (Bits (now bits)) × (Light (laid (length (now checks)) (length (now bits)) (now triples))) × (now checks ≡ syndromeOf (laid (length (now checks)) (length (now bits)) (now triples)) (length (now checks)) (wordOf (now bits))) ⌝ }
+    ensures { λ _. ⌜ now (bits .exit) ≡ flipped (laid (length (now (checks .entry))) (length (now (bits .entry))) (now (triples .entry))) (now (bits .entry)) ⌝ }
+{
+    give_runs(triples, checks, bits);
+    let top = bits::largest(bits) / 2;
+    flip_bytes(bits, top);
+}
+
+// How the main passes ended: with success or not, and the number of the pass that found no broken check, or of all passes.
+pub(crate) struct Ended {
+    pub success: bool,
+    pub iters: usize,
+}
+
+pub(crate) fn run_passes(
+    triples: &[u16],
+    bits: &mut [u8],
+    checks: &mut [u8],
+    maxiters: usize,
+) -> Ended
+    requires { ⌜ (Bits (now bits)) × (Light (laid (length (now checks)) (length (now bits)) (now triples))) ⌝ }
+    ensures { λ r. ⌜ end (r .success) (r .iters) (now (bits .exit)) ≡ passes (laid (length (now (checks .entry))) (length (now (bits .entry))) (now (triples .entry))) (length (now (checks .entry))) maxiters (now (bits .entry)) ⌝ }
+{
+    let mut pass = 0;
+    while pass < maxiters {
+        syndrome(triples, bits, checks);
+        if bits::largest(checks) == 0 {
+            return Ended {
+                success: true,
+                iters: pass,
+            };
+        }
+        flip_pass(triples, checks, bits);
+        pass += 1;
+    }
+    Ended {
+        success: false,
+        iters: maxiters,
+    }
+}
