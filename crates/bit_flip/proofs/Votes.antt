@@ -1,0 +1,170 @@
+-- What the erasure pass leaves in its bytes is what the definition says. Assumes nothing.
+use mathlib.Core.Bool.{Bool, true, false}
+use mathlib.Core.List.{List, [], _∷_, map}
+use mathlib.Core.Path.{_≡_, refl, sym, ap, _∙_}
+use Prim.Native.Nat.{ℕ, zero, suc, _+_, _-_, _*_, _/_, _%_, _≤_, _<_, min}
+use native.Mathlib.Decide.{ℕ-discrete, decLt}
+use native.Mathlib.Omega.{arith}
+use borrow.Author.Tests.{eq-eqb, ne-eqb, lt-ltb, le-ltb}
+use lib.Dec.{T, eqb, ltb}
+use lib.ListN.{length, getD}
+use Rattle.maths.specs.Tests.{pick, both, all}
+use Rattle.maths.specs.Lists.{span, fold}
+use Rattle.maths.specs.Sums.{sumL}
+use Rattle.maths.proofs.Tests.{pick-both}
+use Rattle.maths.proofs.Lists.{span-length, span-ext}
+use Rattle.maths.proofs.Slices.{span-get, span-is}
+use Rattle.codes.specs.Edges.{Edge, inRange}
+use Rattle.codes.specs.Equations.{checkOf, bitOf, bitsOf, checksOf, par, wordOf, syndromeOf}
+use Rattle.codes.proofs.Tally.{into, put-length, put-at}
+use Rattle.bit_flip.specs.Erasures.{holes, others, ayes, nays, voted}
+use Rattle.bit_flip.specs.Steps.{hole, dig, give, voteByte, settleByte, Light, Marked}
+use Rattle.bit_flip.proofs.Scores.{gave, sum-ranged, map-span}
+
+-- ---- the byte of a check: the parity of its known bits, and twice its erased bits, at most 4
+into-hole : (g : ℕ → ℕ) → ((v : ℕ) → g v < 4) → (vs : List ℕ) (x : ℕ) → x ≤ 4 → into hole g vs x ≡ min 4 (x + 2 * sumL vs (λ v. g v / 2))
+unfolding into
+into-hole g low [] x k = omega arith
+into-hole g low (v ∷ vs) x k =
+    let h = low v in
+    into-hole g low vs (min 4 ((x + g v / 2 * 2) % 256)) (omega arith) ∙ omega arith
+
+-- what such a check gives
+vote-one : (h o : ℕ) → o < 2 → voteByte (min 4 (o + 2 * h)) ≡ 2 * pick (eqb h 1) o 0 + 254 * pick (eqb h 1) (1 - o) 0
+unfolding voteByte
+vote-one zero zero k = refl
+vote-one zero (suc zero) k = refl
+vote-one zero (suc (suc o)) k = absurd (omega arith)
+vote-one (suc zero) zero k = refl
+vote-one (suc zero) (suc zero) k = refl
+vote-one (suc zero) (suc (suc o)) k = absurd (omega arith)
+vote-one (suc (suc h)) o k =
+    let e : min 4 (o + 2 * suc (suc h)) ≡ 4 = omega arith in
+    rw (e, ne-eqb (suc (suc h)) 1 (λ z. omega arith))
+
+-- a known bit stays, an erased bit goes by its votes
+settle-one : (x : Bool) (y a n : ℕ) → y < 2 → a + n ≤ 31 → settleByte ((pick x 2 y + 2 * (2 * a + 254 * n)) % 256) ≡ pick x (pick (ltb n a) 1 0) y
+unfolding settleByte
+settle-one false y a n k l =
+    let q : (y + 2 * (2 * a + 254 * n)) % 256 % 4 < 2 = omega arith in
+    let r : (y + 2 * (2 * a + 254 * n)) % 256 % 2 ≡ y = omega arith in
+    rw (lt-ltb _ 2 q, r)
+settle-one true y a n k l = go (decLt n a)
+  where
+    z : ℕ
+    z = (2 + 2 * (2 * a + 254 * n)) % 256
+
+    four : 2 ≤ z % 4
+    four = omega arith
+
+    go : Dec (n < a) → pick (ltb (z % 4) 2) (z % 2) (pick (both (ltb 0 (z / 4)) (ltb (z / 4) 32)) 1 0) ≡ pick (ltb n a) 1 0
+    go (yes h) =
+        let p : 0 < z / 4 = omega arith in
+        let q : z / 4 < 32 = omega arith in
+        rw (le-ltb (z % 4) 2 four, lt-ltb n a h, lt-ltb 0 (z / 4) p, lt-ltb (z / 4) 32 q)
+    go (no h) = rw (le-ltb (z % 4) 2 four, le-ltb n a (omega arith)) (side (ℕ-discrete (z / 4) 0))
+      where
+        side : Dec (z / 4 ≡ 0) → _≡_ {A = ℕ} (pick (both (ltb 0 (z / 4)) (ltb (z / 4) 32)) 1 0) 0
+        side (yes e) = rw e
+        side (no e) =
+            let p : 0 < z / 4 = omega arith in
+            let q : 32 ≤ z / 4 = omega arith in
+            rw (lt-ltb 0 (z / 4) p, le-ltb (z / 4) 32 q)
+
+-- ---- sums
+sum-same : (g g′ : ℕ → ℕ) → ((v : ℕ) → g v ≡ g′ v) → (vs : List ℕ) → sumL vs g ≡ sumL vs g′
+sum-same g g′ h [] = refl
+sum-same g g′ h (v ∷ vs) = omega (arith, h v, sum-same g g′ h vs)
+
+sum-parity : (g g′ : ℕ → ℕ) → ((v : ℕ) → g v % 2 ≡ g′ v % 2) → (vs : List ℕ) → sumL vs g % 2 ≡ sumL vs g′ % 2
+sum-parity g g′ h [] = refl
+sum-parity g g′ h (v ∷ vs) = let e = h v in let f = sum-parity g g′ h vs in omega arith
+
+sum-votes : (a n : ℕ → ℕ) (vs : List ℕ) → sumL vs (λ v. 2 * a v + 254 * n v) ≡ 2 * sumL vs a + 254 * sumL vs n
+sum-votes a n [] = refl
+sum-votes a n (v ∷ vs) = omega (arith, sum-votes a n vs)
+
+sum-two : (a n : ℕ → ℕ) → ((v : ℕ) → a v + n v ≤ 1) → (vs : List ℕ) → sumL vs a + sumL vs n ≤ length vs
+sum-two a n h [] = omega arith
+sum-two a n h (v ∷ vs) = omega (arith, h v, sum-two a n h vs)
+
+module _ (erased : ℕ → Bool) (es : List Edge) (m n : ℕ) (w b : List ℕ) (ranged : T (all (inRange m n) es)) (light : Light es) (mark : Marked erased w b) where
+  marked-low : (v : ℕ) → wordOf b v < 3
+  marked-low v = rw (mark .byte v) (pick-both (λ (x : ℕ). x < 3) (erased v) 2 (wordOf w v) (omega arith) (omega (arith, mark .bits v)))
+
+  parity-same : (v : ℕ) → wordOf b v % 2 ≡ pick (erased v) 0 (wordOf w v) % 2
+  parity-same v = rw (mark .byte v) (go (erased v))
+    where
+      go : (x : Bool) → pick x 2 (wordOf w v) % 2 ≡ pick x 0 (wordOf w v) % 2
+      go true = refl
+      go false = refl
+
+  flag-same : (v : ℕ) → wordOf b v / 2 ≡ pick (erased v) 1 0
+  flag-same v = rw (mark .byte v) (go (erased v))
+    where
+      go : (x : Bool) → pick x 2 (wordOf w v) / 2 ≡ pick x 1 0
+      go true = refl
+      go false = omega (arith, mark .bits v)
+
+  abbrev tally : ℕ → ℕ
+  tally a = min 4 (others erased es w a + 2 * holes erased es a)
+
+  others-low : (a : ℕ) → others erased es w a < 2
+  unfolding others
+  others-low a = omega arith
+
+  -- parity first, then the erased bits
+  dug : {s₁ s₂ : List ℕ} → s₁ ≡ syndromeOf es m (wordOf b) → s₂ ≡ fold (dig (wordOf b)) es s₁ → s₂ ≡ span tally 0 m
+  unfolding syndromeOf others holes
+  dug {s₁} {s₂} e₁ e₂ =
+      e₂ ∙ rw e₁ (span-is _ tally m (put-length checkOf bitOf hole (wordOf b) es s ∙ long)
+      (λ a k.
+      let l : a < length s = rw long k in
+      let o : wordOf s a ≡ others erased es w a = span-get (λ a. par es (wordOf b) a % 2) 0 m a k ∙ sum-parity (wordOf b) _ parity-same (bitsOf es a) in
+      let h : sumL (bitsOf es a) (λ v. wordOf b v / 2) ≡ holes erased es a = sum-same _ _ flag-same (bitsOf es a) in
+      put-at checkOf bitOf hole (wordOf b) es s a l
+      ∙ into-hole (wordOf b) (λ v. omega (arith, marked-low v)) (bitsOf es a) (wordOf s a) (omega (arith, o))
+      ∙ rw (o, h)))
+    where
+      s : List ℕ
+      s = span (λ a. par es (wordOf b) a % 2) 0 m
+
+      long : length s ≡ m
+      long = span-length _ 0 m
+
+  abbrev aye : ℕ → ℕ
+  aye a = pick (eqb (holes erased es a) 1) (others erased es w a) 0
+
+  abbrev nay : ℕ → ℕ
+  nay a = pick (eqb (holes erased es a) 1) (1 - others erased es w a) 0
+
+  one-vote : (a : ℕ) → aye a + nay a ≤ 1
+  one-vote a = go (eqb (holes erased es a) 1)
+    where
+      go : (x : Bool) → pick x (others erased es w a) 0 + pick x (1 - others erased es w a) 0 ≤ 1
+      go true = omega (arith, others-low a)
+      go false = omega arith
+
+  cast : {s₃ : List ℕ} → s₃ ≡ map voteByte (span tally 0 m) → (a : ℕ) → a < m → wordOf s₃ a ≡ 2 * aye a + 254 * nay a
+  cast e a k =
+      rw (e, map-span voteByte tally 0 m) (span-get (λ a. voteByte (tally a)) 0 m a k ∙ vote-one (holes erased es a) (others erased es w a) (others-low a))
+
+  -- the votes that a bit has
+  votes : {s₃ : List ℕ} → s₃ ≡ map voteByte (span tally 0 m) → (v : ℕ) → sumL (checksOf es v) (wordOf s₃) ≡ 2 * ayes erased es w v + 254 * nays erased es w v
+  unfolding ayes nays
+  votes e v = sum-ranged m n _ _ (cast e) es ranged v ∙ sum-votes aye nay (checksOf es v)
+
+  few-votes : (v : ℕ) → ayes erased es w v + nays erased es w v ≤ 31
+  unfolding ayes nays
+  few-votes v = omega (arith, sum-two aye nay one-vote (checksOf es v), light v)
+
+  settled : (s : List ℕ) → s ≡ map voteByte (span tally 0 m) → map settleByte (fold (give (wordOf s)) es b) ≡ voted erased es w
+  unfolding voted
+  settled s e =
+      ap (map settleByte) (gave (wordOf s) es b (λ v. omega (arith, marked-low v)))
+      ∙ map-span settleByte _ 0 (length b)
+      ∙ rw (mark .long) (span-ext _ _ 0 0 (length w) (λ v k. rw (votes e (0 + v), mark .byte (0 + v)) (settle-one (erased (0 + v)) _ _ _ (mark .bits (0 + v)) (few-votes (0 + v)))))
+
+  pub voted-by : {s₁ s₂ s₃ b₁ b₂ : List ℕ} → s₁ ≡ syndromeOf es m (wordOf b) → s₂ ≡ fold (dig (wordOf b)) es s₁ → s₃ ≡ map voteByte s₂
+      → b₁ ≡ fold (give (wordOf s₃)) es b → b₂ ≡ map settleByte b₁ → b₂ ≡ voted erased es w
+  voted-by e₁ e₂ e₃ e₄ e₅ = e₅ ∙ rw e₄ (settled _ (e₃ ∙ ap (map voteByte) (dug e₁ e₂)))
