@@ -115,6 +115,9 @@ flipped-bits es w bits v = go (decLt v (length w))
         (pick-both (λ (x : ℕ). x < 2) (eqb (score es w v) (topScore es w)) (1 - wordOf w v) (wordOf w v) (omega arith) (bits v))
     go (no k) = let h : length (flipped es w) ≤ v = omega (arith, flipped-length es w) in rw (List·getD-eq-default (flipped es w) 0 h) (omega arith)
 
+pub flipped-kept : (es : List Edge) (w : List ℕ) → Bits w → {w′ : List ℕ} → w′ ≡ flipped es w → Bits w′
+flipped-kept es w bits e = rw e (flipped-bits es w bits)
+
 -- ---- one pass of the loop
 module _ (es : List Edge) (m : ℕ) (w : List ℕ) {s : List ℕ} {t : ℕ} (es-is : s ≡ syndromeOf es m (wordOf w)) (et : t ≡ largestOf s) where
   found : eqb t 0 ≡ holds es m (wordOf w)
@@ -124,6 +127,21 @@ module _ (es : List Edge) (m : ℕ) (w : List ℕ) {s : List ℕ} {t : ℕ} (es-
   unfolding pass
   pass-stops e = rw (sym found ∙ e)
 
-  pub pass-goes : eqb t 0 ≡ false → pass es m w ≡ go (flipped es w)
+  pub pass-goes : eqb t 0 ≡ false → {w′ : List ℕ} → w′ ≡ flipped es w → pass es m w ≡ go w′
   unfolding pass
-  pass-goes e = rw (sym found ∙ e)
+  pass-goes e f = rw (sym found ∙ e, f)
+
+-- ---- over the runs of a list of numbers, where m checks and n bits keep their number
+module _ (ns : List ℕ) {k l m n : ℕ} (ek : k ≡ m) (el : l ≡ n) where
+  pub syndrome-moved : (w : List ℕ) {s : List ℕ} → s ≡ syndromeOf (laid k l ns) k (wordOf w) → s ≡ syndromeOf (laid m n ns) m (wordOf w)
+  syndrome-moved w e = rw (← ek, ← el) e
+
+  pub light-moved : Light (laid m n ns) → Light (laid k l ns)
+  light-moved h = rw (ek, el) h
+
+  pub flipped-moved : (w : List ℕ) {w′ : List ℕ} → w′ ≡ flipped (laid k l ns) w → w′ ≡ flipped (laid m n ns) w
+  flipped-moved w e = rw (← ek, ← el) e
+
+pub flip-by : (ns w : List ℕ) (m : ℕ) → Bits w → Light (laid m (length w) ns) → {s w₁ w₂ : List ℕ} {t : ℕ} → s ≡ syndromeOf (laid m (length w) ns) m (wordOf w)
+    → w₁ ≡ fold (give (wordOf s)) (laid m (length w) ns) w → t ≡ largestOf w₁ → w₂ ≡ map (flipByte (t / 2)) w₁ → w₂ ≡ flipped (laid m (length w) ns) w
+flip-by ns w m bits light = flipped-by (laid m (length w) ns) m (length w) w (laid-ranged m (length w) ns) bits light

@@ -5,20 +5,22 @@ use mathlib.Core.Path.{_≡_, refl, sym, ap, _∙_}
 use Prim.Native.Nat.{ℕ, zero, suc, _+_, _-_, _*_, _/_, _%_, _≤_, _<_, min}
 use native.Mathlib.Decide.{ℕ-discrete, decLt}
 use native.Mathlib.Omega.{arith}
-use borrow.Author.Tests.{eq-eqb, ne-eqb, lt-ltb, le-ltb}
-use lib.Dec.{T, eqb, ltb}
-use lib.ListN.{length, getD}
+use borrow.Author.Tests.{ne-eqb, lt-ltb, le-ltb, le-leb, lt-leb}
+use lib.Dec.{T, eqb, ltb, leb}
+use lib.ListN.{length, set, List·getD-eq-default}
 use Rattle.maths.specs.Tests.{pick, both, all}
-use Rattle.maths.specs.Lists.{span, fold}
+use Rattle.maths.specs.Lists.{span, fold, overwrite}
 use Rattle.maths.specs.Sums.{sumL}
-use Rattle.maths.proofs.Tests.{pick-both}
+use Rattle.maths.proofs.Tests.{pick-both, both-true, both-false}
 use Rattle.maths.proofs.Lists.{span-length, span-ext}
-use Rattle.maths.proofs.Slices.{span-get, span-is}
+use Rattle.maths.proofs.Slices.{span-get, span-is, overwrite-same, overwrite-more, overwrite-all}
 use Rattle.codes.specs.Edges.{Edge, inRange}
+use Rattle.codes.specs.Runs.{laid}
 use Rattle.codes.specs.Equations.{checkOf, bitOf, bitsOf, checksOf, par, wordOf, syndromeOf}
 use Rattle.codes.proofs.Tally.{into, put-length, put-at}
-use Rattle.bit_flip.specs.Erasures.{holes, others, ayes, nays, voted}
-use Rattle.bit_flip.specs.Steps.{hole, dig, give, voteByte, settleByte, Light, Marked}
+use Rattle.codes.proofs.Parity.{laid-ranged}
+use Rattle.bit_flip.specs.Erasures.{holes, others, ayes, nays, voted, filled, erasurePasses, fromOn}
+use Rattle.bit_flip.specs.Steps.{hole, dig, give, voteByte, settleByte, setFrom, Light, Bits, Marked}
 use Rattle.bit_flip.proofs.Scores.{gave, sum-ranged, map-span}
 
 -- ---- the byte of a check: the parity of its known bits, and twice its erased bits, at most 4
@@ -168,3 +170,64 @@ module _ (erased : ℕ → Bool) (es : List Edge) (m n : ℕ) (w b : List ℕ) (
   pub voted-by : {s₁ s₂ s₃ b₁ b₂ : List ℕ} → s₁ ≡ syndromeOf es m (wordOf b) → s₂ ≡ fold (dig (wordOf b)) es s₁ → s₃ ≡ map voteByte s₂
       → b₁ ≡ fold (give (wordOf s₃)) es b → b₂ ≡ map settleByte b₁ → b₂ ≡ voted erased es w
   voted-by e₁ e₂ e₃ e₄ e₅ = e₅ ∙ rw e₄ (settled _ (e₃ ∙ ap (map voteByte) (dug e₁ e₂)))
+
+-- ---- over the runs of a list of numbers, where the checks keep their number
+pub vote-by : (erased : ℕ → Bool) (ns w b : List ℕ) (m : ℕ) → Light (laid m (length b) ns) → Marked erased w b
+    → {k₁ k₃ : ℕ} {s₁ s₂ s₃ b₁ b₂ : List ℕ} → k₁ ≡ m → k₃ ≡ m
+    → s₁ ≡ syndromeOf (laid m (length b) ns) m (wordOf b) → s₂ ≡ fold (dig (wordOf b)) (laid k₁ (length b) ns) s₁ → s₃ ≡ map voteByte s₂
+    → b₁ ≡ fold (give (wordOf s₃)) (laid k₃ (length b) ns) b → b₂ ≡ map settleByte b₁ → b₂ ≡ voted erased (laid m (length b) ns) w
+vote-by erased ns w b m light mark l₁ l₃ e₁ e₂ e₃ e₄ e₅ =
+    voted-by erased (laid m (length b) ns) m (length b) w b (laid-ranged m (length b) ns) light mark e₁ (rw l₁ at e₂) e₃ (rw l₃ at e₄) e₅
+
+-- ---- the bits from n on are erased
+module _ (n x : ℕ) (w : List ℕ) where
+  from-length : length (setFrom n x w) ≡ length w
+  unfolding setFrom
+  from-length = span-length _ 0 (length w)
+
+  from-at : (v : ℕ) → v < length w → wordOf (setFrom n x w) v ≡ pick (leb n v) x (wordOf w v)
+  unfolding setFrom
+  from-at v h = span-get (λ v. pick (leb n v) x (wordOf w v)) 0 (length w) v h
+
+  -- a loop that sets them
+  pub from-first : n ≤ length w → w ≡ overwrite (λ v. pick (leb n v) x (wordOf w v)) n w
+  from-first h = overwrite-same (λ v. pick (leb n v) x (wordOf w v)) w n h (λ v k. rw (lt-leb n v k))
+
+  pub from-more : (i : ℕ) {l : List ℕ} → n ≤ i → i < length w → l ≡ overwrite (λ v. pick (leb n v) x (wordOf w v)) i w
+      → set l i x ≡ overwrite (λ v. pick (leb n v) x (wordOf w v)) (i + 1) w
+  from-more i h k inv = overwrite-more (λ v. pick (leb n v) x (wordOf w v)) w i inv k (rw (le-leb n i h))
+
+  pub from-all : (i : ℕ) {l : List ℕ} → i ≤ length w → length w ≤ i → l ≡ overwrite (λ v. pick (leb n v) x (wordOf w v)) i w → l ≡ setFrom n x w
+  unfolding setFrom
+  from-all i h k inv = overwrite-all (λ v. pick (leb n v) x (wordOf w v)) w i inv h k
+
+pub marked : (n : ℕ) (w : List ℕ) → Bits w → Marked (fromOn n (length w)) w (setFrom n 2 w)
+marked n w bits = record { bits = bits; long = from-length n 2 w; byte = λ v. go v (decLt v (length w)) }
+  where
+    go : (v : ℕ) → Dec (v < length w) → wordOf (setFrom n 2 w) v ≡ pick (fromOn n (length w) v) 2 (wordOf w v)
+    go v (yes h) = rw (lt-ltb v (length w) h, both-true (leb n v)) (from-at n 2 w v h)
+    go v (no h) =
+        let l : length w ≤ v = omega arith in
+        let k : length (setFrom n 2 w) ≤ v = omega (arith, from-length n 2 w) in
+        rw (le-ltb v (length w) l, both-false (leb n v)) (List·getD-eq-default (setFrom n 2 w) 0 k ∙ sym (List·getD-eq-default w 0 l))
+
+-- ---- the erasure passes: none without erased bits or iterations, else one
+module _ (erased : ℕ → Bool) (es : List Edge) (p limit : ℕ) (w : List ℕ) where
+  pub no-bits : p ≡ 0 → filled w 0 ≡ erasurePasses erased es p limit w
+  unfolding erasurePasses
+  no-bits e = rw e
+
+  pub no-limit : limit ≡ 0 → filled w 0 ≡ erasurePasses erased es p limit w
+  unfolding erasurePasses
+  no-limit e = rw (e, both-false (ltb 0 p))
+
+  pub one-pass : {w′ : List ℕ} → 0 < p → 0 < limit → w′ ≡ voted erased es w → filled w′ 0 ≡ erasurePasses erased es p limit w
+  unfolding erasurePasses
+  one-pass h k e = rw (lt-ltb 0 p h, lt-ltb 0 limit k, e)
+
+pub erased-by : (ns w : List ℕ) (m n limit : ℕ) → Bits w → n < length w → 0 < limit → {b w′ : List ℕ} → b ≡ setFrom n 2 w → length b ≡ length w
+    → ((erased : ℕ → Bool) (u : List ℕ) → Marked erased u b → w′ ≡ voted erased (laid m (length b) ns) u)
+    → filled w′ 0 ≡ erasurePasses (fromOn n (length w)) (laid m (length w) ns) (length w - n) limit w
+erased-by ns w m n limit bits h k e l v =
+    one-pass (fromOn n (length w)) (laid m (length w) ns) (length w - n) limit w (omega arith) k
+    (rw l at (v (fromOn n (length w)) w (rw e (marked n w bits))))

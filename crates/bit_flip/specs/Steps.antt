@@ -3,9 +3,10 @@ use mathlib.Core.Bool.{Bool}
 use mathlib.Core.List.{List}
 use mathlib.Core.Path.{_≡_}
 use Prim.Native.Nat.{ℕ, _+_, _-_, _*_, _/_, _%_, _≤_, _<_, min}
-use lib.Dec.{eqb, ltb}
+use lib.Dec.{eqb, ltb, leb}
 use lib.ListN.{length}
 use Rattle.maths.specs.Tests.{pick, both}
+use Rattle.maths.specs.Lists.{span}
 use Rattle.codes.specs.Edges.{Edge}
 use Rattle.codes.specs.Equations.{checkOf, bitOf, checksOf, wordOf}
 use Rattle.codes.specs.Steps.{put}
@@ -35,6 +36,10 @@ voteByte x = pick (eqb x 3) 2 (pick (eqb x 2) 254 0)
 -- a bit as it was, or an erased bit (2) by four times the votes it has
 unfoldable pub settleByte : ℕ → ℕ
 settleByte x = pick (ltb (x % 4) 2) (x % 2) (pick (both (ltb 0 (x / 4)) (ltb (x / 4) 32)) 1 0)
+
+-- the list w, every element from n on replaced by x
+unfoldable pub setFrom : ℕ → ℕ → List ℕ → List ℕ
+setFrom n x w = span (λ v. pick (leb n v) x (wordOf w v)) 0 (length w)
 
 -- no bit has so many edges that a byte could not hold its votes
 abbrev pub Light : List Edge → Type 0

@@ -2,14 +2,14 @@
 ghost use mathlib.Core.Path.{_≡_};
 ghost use mathlib.Core.Bool.{Bool};
 ghost use mathlib.Core.List.{List, map};
-ghost use Prim.Native.Nat.{ℕ, _-_};
-ghost use lib.ListN.{length, replicate};
+ghost use Prim.Native.Nat.{ℕ, _-_, _≤_};
+ghost use lib.ListN.{length};
 ghost use Rattle.maths.specs.Lists.{fold};
 ghost use Rattle.codes.specs.Runs.{run, laid};
 ghost use Rattle.codes.specs.Equations.{wordOf};
 ghost use Rattle.codes.specs.Steps.{overRun};
 ghost use Rattle.bit_flip.specs.Erasures.{voted, filled, erasurePasses, fromOn};
-ghost use Rattle.bit_flip.specs.Steps.{hole, dig, voteByte, settleByte, Light, Bits, Marked};
+ghost use Rattle.bit_flip.specs.Steps.{hole, dig, voteByte, settleByte, setFrom, Light, Bits, Marked};
 use crate::passes::give_runs;
 use codes::meets::syndrome;
 use codes::parity_iter::Bit;
@@ -99,11 +99,13 @@ fn vote(triples: &[u16], bits: &mut [u8], checks: &mut [u8])
     settle_bytes(bits);
 }
 
-fn erase(bits: &mut [u8])
-    ensures { λ _. ⌜ now (bits .exit) ≡ replicate (length (now (bits .entry))) 2 ⌝ }
+// The bytes from a place on, all the same.
+pub(crate) fn set_from(bits: &mut [u8], from: usize, value: u8)
+    requires { ⌜ from ≤ length (now bits) ⌝ }
+    ensures { λ _. ⌜ now (bits .exit) ≡ setFrom from value (now (bits .entry)) ⌝ }
 {
-    for i in 0..bits.len() {
-        bits[i] = 2;
+    for i in from..bits.len() {
+        bits[i] = value;
     }
 }
 
@@ -124,7 +126,7 @@ pub(crate) fn decode_erasures(
     if maxiters == 0 {
         return 0;
     }
-    erase(&mut bits[n..]);
+    set_from(bits, n, 2);
     vote(triples, bits, checks);
     0
 }

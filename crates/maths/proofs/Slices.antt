@@ -9,7 +9,7 @@ use native.Mathlib.Omega.{arith}
 use borrow.Author.Tests.{ne-eqb}
 use lib.Dec.{eqb, eqb·suc-zero}
 use lib.ListN.{length, getD, set, drop, replicate, length-append, length-drop, drop-of-length-le, List·getD-append}
-use lib.Seq.{sets, drop-cons, set-at, getD-at, ext-getD}
+use lib.Seq.{sets, drop-cons, set-at, set-getD, getD-at, ext-getD}
 use Rattle.maths.specs.Tests.{both, below}
 use Rattle.maths.specs.Lists.{span, fold, largestOf, overwrite}
 use Rattle.maths.proofs.Lists.{span-split, span-length, span-ext, getD-span}
@@ -71,6 +71,13 @@ module _ (f : ℕ → ℕ) (d : List ℕ) where
   overwrite-set k h =
       rw (drop-cons d k 0 h, span-more f k)
       (set-at (span f 0 k) (getD d k 0) (drop (suc k) d) (f k) k (span-length f 0 k) ∙ sym (append-assoc (span f 0 k) (f k ∷ []) (drop (suc k) d)))
+
+  -- by what stands there
+  pub overwrite-same : (k : ℕ) → k ≤ length d → ((i : ℕ) → i < k → f i ≡ getD d i 0) → d ≡ overwrite f k d
+  overwrite-same zero g h = overwrite-none
+  overwrite-same (suc k) g h =
+      let e = overwrite-same k (omega arith) (λ i l. h i (omega arith)) in
+      sym (set-getD d k 0) ∙ ap (λ (l : List ℕ). set l k (getD d k 0)) e ∙ rw (← h k (omega arith)) (overwrite-set k (omega arith))
 
   pub overwrite-more : (k : ℕ) {l : List ℕ} {v : ℕ} → l ≡ overwrite f k d → k < length d → v ≡ f k → set l k v ≡ overwrite f (k + 1) d
   overwrite-more k inv h e = rw (inv, e, add-one k) (overwrite-set k h)
