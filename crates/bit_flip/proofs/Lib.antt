@@ -1,2 +1,3 @@
 pub mod Scores
 pub mod Votes
+pub mod Whole

@@ -102,18 +102,22 @@ module _ (es : List Edge) (m n : ℕ) (w : List ℕ) (ranged : T (all (inRange m
       e₂ ∙ rw (b, d) (map-span (flipByte (topScore es w)) _ 0 (length w)
       ∙ span-ext _ _ 0 0 (length w) (λ v k. flip-one (topScore es w) (wordOf w (0 + v)) (score es w (0 + v)) (bits (0 + v))))
 
+-- a span of bits
+pub span-bits : (f : ℕ → ℕ) → ((v : ℕ) → f v < 2) → (n : ℕ) → Bits (span f 0 n)
+span-bits f low n v = go (decLt v n)
+  where
+    go : Dec (v < n) → wordOf (span f 0 n) v < 2
+    go (yes k) = rw (span-get f 0 n v k) (low v)
+    go (no k) = let h : length (span f 0 n) ≤ v = omega (arith, span-length f 0 n) in rw (List·getD-eq-default (span f 0 n) 0 h) (omega arith)
+
 pub flipped-length : (es : List Edge) (w : List ℕ) → length (flipped es w) ≡ length w
 unfolding flipped
 flipped-length es w = span-length _ 0 (length w)
 
 pub flipped-bits : (es : List Edge) (w : List ℕ) → Bits w → Bits (flipped es w)
 unfolding flipped
-flipped-bits es w bits v = go (decLt v (length w))
-  where
-    go : Dec (v < length w) → wordOf (flipped es w) v < 2
-    go (yes k) = rw (span-get (λ v. pick (eqb (score es w v) (topScore es w)) (1 - wordOf w v) (wordOf w v)) 0 (length w) v k)
-        (pick-both (λ (x : ℕ). x < 2) (eqb (score es w v) (topScore es w)) (1 - wordOf w v) (wordOf w v) (omega arith) (bits v))
-    go (no k) = let h : length (flipped es w) ≤ v = omega (arith, flipped-length es w) in rw (List·getD-eq-default (flipped es w) 0 h) (omega arith)
+flipped-bits es w bits =
+    span-bits _ (λ v. pick-both (λ (x : ℕ). x < 2) (eqb (score es w v) (topScore es w)) (1 - wordOf w v) (wordOf w v) (omega arith) (bits v)) (length w)
 
 pub flipped-kept : (es : List Edge) (w : List ℕ) → Bits w → {w′ : List ℕ} → w′ ≡ flipped es w → Bits w′
 flipped-kept es w bits e = rw e (flipped-bits es w bits)

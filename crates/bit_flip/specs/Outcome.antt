@@ -1,5 +1,5 @@
 -- What a call of decode_bf leaves behind. Assumes nothing.
-use mathlib.Core.Bool.{not}
+use mathlib.Core.Bool.{Bool, not}
 use mathlib.Core.List.{List, [], _∷_}
 use Prim.Native.Nat.{ℕ, _+_, _/_}
 use lib.Dec.{eqb}
@@ -10,11 +10,11 @@ use Rattle.maths.specs.Bits.{bitAt}
 use Rattle.bits.specs.Packed.{byteOf}
 use Rattle.codes.specs.Answers.{Test, test, firstOf, unlike}
 use Rattle.codes.specs.Codes.{known, rowOf, bitsIn, checksIn}
-use Rattle.codes.specs.Edges.{edges}
+use Rattle.codes.specs.Edges.{Edge, edges}
 use Rattle.report.specs.declared.Report.{Report}
 use Rattle.report.specs.Report.{refusal, ending}
 use Rattle.bit_flip.specs.Flip.{passes}
-use Rattle.bit_flip.specs.Erasures.{Filled, erasurePasses, fromOn}
+use Rattle.bit_flip.specs.Erasures.{erasurePasses, fromOn}
 
 -- its report, and both buffers that it writes
 pub record Outcome : Type 0 where
@@ -25,6 +25,35 @@ pub record Outcome : Type 0 where
 abbrev pub left : Report → List ℕ → List ℕ → Outcome
 left r o w = record { report = r; output = o; working = w }
 
+-- the report, and the word that the passes leave
+pub record Decoded : Type 0 where
+  pub report : Report
+  pub word : List ℕ
+
+abbrev pub decodedTo : Report → List ℕ → Decoded
+decodedTo r w = record { report = r; word = w }
+
+-- the erasure passes, then the main passes; the count returned is the sum of both
+unfoldable pub decodeWord : List Edge → ℕ → (ℕ → Bool) → ℕ → ℕ → List ℕ → Decoded
+decodeWord es m erased p limit w =
+    let s = erasurePasses erased es p limit w in
+    let e = passes es m limit (s .word) in
+    decodedTo (ending (e .success) (e .turns + s .count)) (e .state)
+
+-- "The output starts as the input": the bits that were sent, and 0 for those that were not
+abbrev pub received : ℕ → List ℕ → List ℕ
+received code input = span (bitAt input) 0 (bitsIn code)
+
+-- the bits of a code that are not sent
+abbrev pub punctured : ℕ → ℕ → Bool
+punctured code = fromOn (rowOf code .n) (bitsIn code)
+
+-- an accepted call: the word as bytes, and every working byte 0
+unfoldable pub decoded : ℕ → List ℕ → ℕ → Outcome
+decoded code input limit =
+    let d = decodeWord (edges code) (checksIn code) (punctured code) (rowOf code .«punctured_bits») limit (received code input) in
+    left (d .report) (span (byteOf (d .word)) 0 (rowOf code .«output_len»)) (replicate (bitsIn code) 0)
+
 -- the tests of a call with buffers of these lengths, in order
 abbrev pub tests : ℕ → ℕ → ℕ → ℕ → List Test
 tests code input output working =
@@ -33,21 +62,6 @@ tests code input output working =
     test (unlike output (rowOf code .«output_len»)) 3 ∷
     test (unlike working (rowOf code .«decode_bf_working_len»)) 4 ∷
     []
-
--- "The output starts as the input": the bits that were sent, and 0 for those that were not
-abbrev pub received : ℕ → List ℕ → List ℕ
-received code input = span (bitAt input) 0 (bitsIn code)
-
--- the erasure passes over the bits that are not sent
-abbrev pub started : ℕ → List ℕ → ℕ → Filled
-started code input limit = erasurePasses (fromOn (rowOf code .n) (bitsIn code)) (edges code) (rowOf code .«punctured_bits») limit (received code input)
-
--- an accepted call: the word that the passes leave, as bytes, and every working byte 0
-unfoldable pub decoded : ℕ → List ℕ → ℕ → Outcome
-decoded code input limit =
-    let s = started code input limit in
-    let e = passes (edges code) (checksIn code) limit (s .word) in
-    left (ending (e .success) (e .turns + s .count)) (span (byteOf (e .state)) 0 (rowOf code .«output_len»)) (replicate (bitsIn code) 0)
 
 -- "A refusal says success false, iterations 0, and changes no byte of any buffer."
 unfoldable pub outcome : ℕ → List ℕ → List ℕ → List ℕ → ℕ → Outcome

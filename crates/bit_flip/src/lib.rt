@@ -1,3 +1,102 @@
 // Bit flipping, a decoder of hard information. (Rust: decode_bf and decode_erasures of decoder.rs)
+ghost use mathlib.Core.Path.{_≡_};
+ghost use Prim.Native.Nat.{_-_, _*_, _≤_};
+ghost use lib.ListN.{length};
+ghost use Rattle.maths.specs.Lists.{span};
+ghost use Rattle.maths.specs.Bits.{bitAt};
+ghost use Rattle.codes.specs.Runs.{laid};
+ghost use Rattle.bit_flip.specs.Erasures.{fromOn};
+ghost use Rattle.bit_flip.specs.Outcome.{left, decodedTo, decodeWord, decoded, outcome};
+ghost use Rattle.bit_flip.specs.Steps.{Light, Accepted};
+use codes::ACCEPTED;
+use codes::MAX_CHECKS;
+use codes::WRONG_READ;
+use codes::WRONG_WORKING;
+use codes::WRONG_WRITTEN;
+use codes::params;
+use codes::runs::runs_of;
+use erasures::decode_erasures;
+use erasures::set_from;
+use passes::run_passes;
+use report::Report;
+use report::finished;
+use report::refused;
+
 mod erasures;
 mod passes;
+
+// The word that was received, of which the first n bits were sent, one byte a bit, and the passes over it.
+fn decode_bits(
+    input: &[u8],
+    n: usize,
+    triples: &[u16],
+    bits: &mut [u8],
+    checks: &mut [u8],
+    maxiters: usize,
+) -> Report
+    requires { ⌜ (8 * length (now input) ≡ n) × (n ≤ length (now bits)) × (Light (laid (length (now checks)) (length (now bits)) (now triples))) ⌝ }
+    ensures { λ r. ⌜ decodedTo r (now (bits .exit)) ≡ decodeWord (laid (length (now (checks .entry))) (length (now (bits .entry))) (now (triples .entry))) (length (now (checks .entry))) (fromOn n (length (now (bits .entry)))) (length (now (bits .entry)) - n) maxiters (span (bitAt (now (input .entry))) 0 (length (now (bits .entry)))) ⌝ }
+{
+    bits::unpack(input, bits);
+    set_from(bits, n, 0);
+    let count = decode_erasures(triples, n, bits, checks, maxiters);
+    let e = run_passes(triples, bits, checks, maxiters);
+    finished(e.success, e.iters + count)
+}
+
+// The bits stand in the lent working buffer, which is cleared at the end.
+fn decode(
+    code: usize,
+    n: usize,
+    m: usize,
+    input: &[u8],
+    output: &mut [u8],
+    working: &mut [u8],
+    maxiters: usize,
+) -> Report
+    requires { ⌜ Accepted code n m (length (now input)) (length (now output)) (length (now working)) ⌝ }
+    ensures { λ r. ⌜ left r (now (output .exit)) (now (working .exit)) ≡ decoded code (now (input .entry)) maxiters ⌝ }
+{
+    let mut checks = [0u8; MAX_CHECKS];
+    let runs = runs_of(code);
+    let end = 3 * runs.count;
+    let triples = runs.triples;
+    let report = decode_bits(
+        input,
+        n,
+        &triples[..end],
+        working,
+        &mut checks[..m],
+        maxiters,
+    );
+    bits::pack(working, output);
+    bits::clear(working);
+    report
+}
+
+pub fn decode_bf(
+    code: usize,
+    input: &[u8],
+    output: &mut [u8],
+    working: &mut [u8],
+    maxiters: usize,
+) -> Report
+    ensures { λ r. ⌜ left r (now (output .exit)) (now (working .exit)) ≡ outcome code (now (input .entry)) (now (output .entry)) (now (working .entry)) maxiters ⌝ }
+{
+    let asked = params(code);
+    if asked.answer != ACCEPTED {
+        return refused(asked.answer);
+    }
+    let row = asked.row;
+    if input.len() != row.n / 8 {
+        return refused(WRONG_READ);
+    }
+    if output.len() != row.output_len {
+        return refused(WRONG_WRITTEN);
+    }
+    if working.len() != row.decode_bf_working_len {
+        return refused(WRONG_WORKING);
+    }
+    let m = row.n + row.punctured_bits - row.k;
+    decode(code, row.n, m, input, output, working, maxiters)
+}

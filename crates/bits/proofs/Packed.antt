@@ -10,8 +10,8 @@ use lib.Seq.{sets, ext-getD}
 use Rattle.maths.specs.Bits.{bitAt}
 use Rattle.maths.specs.Lists.{span, overwrite}
 use Rattle.maths.proofs.Lists.{span-length}
-use Rattle.maths.proofs.Slices.{span-get, span-is, overwrite-sets, overwrite-at, overwrite-length}
-use Rattle.bits.specs.Packed.{wholeBytes, eight, byteFrom, byteOf, unpacked}
+use Rattle.maths.proofs.Slices.{span-get, span-is, overwrite-sets, overwrite-at, overwrite-all, overwrite-length}
+use Rattle.bits.specs.Packed.{wholeBytes, eight, byteFrom, byteOf, unpacked, packed}
 
 -- ---- unpacking: the eight bits of byte i
 place : (s : List ℕ) (i j x k : ℕ) → j < 8 → k ≡ 8 * i + j → x ≡ getD s i 0 → x / 2 ^ (7 - j) % 2 ≡ bitAt s k
@@ -87,6 +87,10 @@ nth w a (suc (suc (suc (suc (suc zero))))) k = refl
 nth w a (suc (suc (suc (suc (suc (suc zero)))))) k = refl
 nth w a (suc (suc (suc (suc (suc (suc (suc zero))))))) k = refl
 nth w a (suc (suc (suc (suc (suc (suc (suc (suc r)))))))) k = absurd (omega arith)
+
+-- bytes that a list of bits fills
+pub packed-whole : (w d : List ℕ) → 8 * length d ≡ length w → packed w d ≡ span (byteOf w) 0 (length d)
+packed-whole w d e = overwrite-all (byteOf w) d (wholeBytes (length d) (length w)) refl (omega arith) (omega arith)
 
 -- bit v of n packed bytes
 pub packed-at : (n : ℕ) (w : List ℕ) (v : ℕ) → v < 8 * n → bitAt (span (byteOf w) 0 n) v ≡ getD w v 0 % 2

@@ -1,0 +1,158 @@
+-- From the bytes of a call to the outcome of the definition. Assumes nothing.
+use mathlib.Core.Bool.{Bool, true, false, not}
+use mathlib.Core.List.{List, [], _∷_, _++_}
+use mathlib.Core.Path.{_≡_, sym, ap, subst, _∙_}
+use Prim.Native.Nat.{ℕ, zero, suc, _+_, _-_, _*_, _/_, _≤_, _<_}
+use native.Mathlib.Decide.{decLt}
+use native.Mathlib.Omega.{arith}
+use borrow.Author.Tests.{eq-eqb, ne-eqb, lt-ltb, le-leb, lt-leb}
+use lib.Dec.{eqb, ltb, leb}
+use lib.ListN.{length, replicate}
+use Rattle.maths.specs.Tests.{pick, both}
+use Rattle.maths.specs.Bits.{bitAt}
+use Rattle.maths.specs.Lists.{span}
+use Rattle.maths.specs.Budget.{end}
+use Rattle.maths.proofs.Tests.{pick-both}
+use Rattle.maths.proofs.Lists.{span-ext}
+use Rattle.maths.proofs.Slices.{overwrite-at}
+use Rattle.bits.specs.Packed.{wholeBytes, byteOf, unpacked}
+use Rattle.bits.proofs.Packed.{bit-low, bit-past}
+use Rattle.codes.specs.declared.ParamsAnswer.{ParamsAnswer}
+use Rattle.codes.specs.Codes.{codes, Known, known, rowOf, paramsOf, bitsIn, checksIn}
+use Rattle.codes.specs.Edges.{Edge, edges}
+use Rattle.codes.specs.Runs.{runs, numbers, laid}
+use Rattle.codes.specs.Equations.{wordOf}
+use Rattle.codes.proofs.Codes.{roomy}
+use Rattle.codes.proofs.Parity.{laid-runs, asked-unknown, asked-known}
+use Rattle.codes.proofs.Light.{light}
+use Rattle.report.specs.declared.Report.{Report}
+use Rattle.report.specs.Report.{refusal, ending}
+use Rattle.bit_flip.specs.Flip.{passes}
+use Rattle.bit_flip.specs.Erasures.{ayes, nays, voted, Filled, filled, erasurePasses, fromOn}
+use Rattle.bit_flip.specs.Outcome.{Outcome, left, decodedTo, decodeWord, decoded, outcome}
+use Rattle.bit_flip.specs.Steps.{setFrom, Light, Bits, Accepted}
+use Rattle.bit_flip.proofs.Scores.{span-bits}
+
+-- ---- the word that was received
+pub received-by : (s d : List ℕ) (n : ℕ) → 8 * length s ≡ n → n ≤ length d → {b b′ : List ℕ} → b ≡ unpacked s d → length b ≡ length d → b′ ≡ setFrom n 0 b
+    → b′ ≡ span (bitAt s) 0 (length d)
+unfolding setFrom
+received-by s d n e h {b} eb el eb′ =
+    eb′ ∙ rw el (span-ext _ _ 0 0 (length d) (λ v k. go (0 + v) (decLt (0 + v) n)))
+  where
+    go : (v : ℕ) → Dec (v < n) → pick (leb n v) 0 (wordOf b v) ≡ bitAt s v
+    go v (yes l) = rw (lt-leb n v l, eb) (overwrite-at (bitAt s) d (8 * wholeBytes (length s) (length d)) v (omega arith))
+    go v (no l) = rw (le-leb n v (omega arith)) (sym (bit-past s v (omega arith)))
+
+pub received-bits : (s : List ℕ) (t : ℕ) {b : List ℕ} → b ≡ span (bitAt s) 0 t → Bits b
+received-bits s t e = rw e (span-bits (bitAt s) (bit-low s) t)
+
+-- ---- what the erasure passes keep, and count
+pub filled-bits : (erased : ℕ → Bool) (es : List Edge) (p limit : ℕ) (w : List ℕ) → Bits w → {w′ : List ℕ} {n : ℕ} → filled w′ n ≡ erasurePasses erased es p limit w → Bits w′
+unfolding erasurePasses voted
+filled-bits erased es p limit w bits e =
+    subst Bits (sym (ap (λ (f : Filled). f .word) e))
+    (pick-both Bits (both (ltb 0 p) (ltb 0 limit)) (voted erased es w) w
+    (span-bits _ (λ v. pick-both (λ (x : ℕ). x < 2) (erased v) _ (wordOf w v)
+    (pick-both (λ (x : ℕ). x < 2) (ltb (nays erased es w v) (ayes erased es w v)) 1 0 (omega arith) (omega arith)) (bits v)) (length w))
+    bits)
+
+pub filled-none : (erased : ℕ → Bool) (es : List Edge) (p limit : ℕ) (w : List ℕ) {w′ : List ℕ} {n : ℕ} → filled w′ n ≡ erasurePasses erased es p limit w → n ≡ 0
+unfolding erasurePasses
+filled-none erased es p limit w e = ap (λ (f : Filled). f .count) e
+
+-- ---- a word, from its bits
+pub word-by : (es : List Edge) (m : ℕ) (erased : ℕ → Bool) (p limit : ℕ) (w : List ℕ) {w₁ w₂ : List ℕ} {count k : ℕ} {b : Bool} {r : Report}
+    → filled w₁ count ≡ erasurePasses erased es p limit w → end b k w₂ ≡ passes es m limit w₁ → r ≡ ending b (k + count)
+    → decodedTo r w₂ ≡ decodeWord es m erased p limit w
+unfolding decodeWord
+word-by es m erased p limit w e₁ e₂ er = rw (er, ← e₁, ← e₂)
+
+-- the same over the runs of a list of numbers, where m checks and t bits keep their number
+pub bits-by : (ns w : List ℕ) (m t n limit : ℕ) {t′ m″ t″ : ℕ} {w₀ w₁ w₂ : List ℕ} {count k : ℕ} {b : Bool} {r : Report} → t′ ≡ t → m″ ≡ m → t″ ≡ t → w₀ ≡ w
+    → filled w₁ count ≡ erasurePasses (fromOn n t′) (laid m t′ ns) (t′ - n) limit w₀ → end b k w₂ ≡ passes (laid m″ t″ ns) m″ limit w₁ → r ≡ ending b (k + count)
+    → decodedTo r w₂ ≡ decodeWord (laid m t ns) m (fromOn n t) (t - n) limit w
+bits-by ns w m t n limit l₁ k₂ l₂ ew e₁ e₂ er =
+    word-by (laid m t ns) m (fromOn n t) (t - n) limit w (rw (l₁, ew) at e₁) (rw (k₂, l₂) at e₂) er
+
+-- ---- an accepted call
+module _ {code n m i o t : ℕ} (a : Accepted code n m i o t) where
+  pub bits-are : t ≡ bitsIn code
+  bits-are = a .working-long ∙ roomy code (a .known) .working
+
+  pub checks-few : m ≤ 1536
+  checks-few = omega (arith, a .checks, roomy code (a .known) .checks)
+
+  pub whole-input : 8 * i ≡ n
+  whole-input = omega (arith, a .input-long, a .sent, roomy code (a .known) .sent)
+
+  pub sent-low : n ≤ t
+  sent-low = omega (arith, bits-are, a .sent)
+
+  pub whole-output : 8 * o ≡ t
+  whole-output = omega (arith, a .output-long, bits-are, roomy code (a .known) .whole)
+
+  pub edges-are : (ns : List ℕ) {k : ℕ} → ns ≡ numbers (runs code) → k ≡ m → laid k t ns ≡ edges code
+  edges-are ns en ek =
+      let c : _ ≡ checksIn code = ek ∙ a .checks in
+      rw (en, c, bits-are) (laid-runs code (a .known))
+
+  pub light-by : (ns : List ℕ) {k : ℕ} → ns ≡ numbers (runs code) → k ≡ m → Light (laid k t ns)
+  light-by ns en ek v = rw (edges-are ns en ek) (omega (arith, light code v))
+
+  pub decoded-by : (input ns : List ℕ) (limit k : ℕ) {w w′ out : List ℕ} {r : Report} → ns ≡ numbers (runs code) → k ≡ m
+      → decodedTo r w ≡ decodeWord (laid k t ns) k (fromOn n t) (t - n) limit (span (bitAt input) 0 t) → out ≡ span (byteOf w) 0 o → w′ ≡ replicate t 0
+      → left r out w′ ≡ decoded code input limit
+  unfolding decoded
+  decoded-by input ns limit k en ek ed eo ew =
+      let p : t - n ≡ rowOf code .«punctured_bits» = omega (arith, bits-are, a .sent) in
+      let c : k ≡ checksIn code = ek ∙ a .checks in
+      let d = rw (edges-are ns en ek, c, p, a .sent, bits-are) at ed in
+      rw (ew, eo, ← d, bits-are, a .output-long)
+
+-- ---- the tests in order
+module _ (code : ℕ) {p : ParamsAnswer} (e : p ≡ paramsOf code) (input output working : List ℕ) (limit : ℕ) where
+  pub refused-code : {r : Report} → (p .answer ≡ 0 → ⊥) → r ≡ refusal (p .answer) → left r output working ≡ outcome code input output working limit
+  unfolding outcome
+  refused-code h er =
+      let k = asked-unknown code e h in
+      rw (er, k .1, k .0)
+
+  module _ (known : p .answer ≡ 0) where
+    pub refused-input : {r : Report} → (length input ≡ p .row .n / 8 → ⊥) → r ≡ refusal 2 → left r output working ≡ outcome code input output working limit
+    unfolding outcome
+    refused-input h er =
+        let i : eqb (length input) (rowOf code .n / 8) ≡ false = ne-eqb _ _ (rw e at h) in
+        rw (er, lt-ltb code codes (asked-known code e known), i)
+
+    module _ (fits : length input ≡ p .row .n / 8) where
+      input-fits : eqb (length input) (rowOf code .n / 8) ≡ true
+      input-fits = eq-eqb _ _ (rw e at fits)
+
+      pub refused-output : {r : Report} → (length output ≡ p .row .«output_len» → ⊥) → r ≡ refusal 3 → left r output working ≡ outcome code input output working limit
+      unfolding outcome
+      refused-output h er =
+          let o : eqb (length output) (rowOf code .«output_len») ≡ false = ne-eqb _ _ (rw e at h) in
+          rw (er, lt-ltb code codes (asked-known code e known), input-fits, o)
+
+      module _ (fits′ : length output ≡ p .row .«output_len») where
+        output-fits : eqb (length output) (rowOf code .«output_len») ≡ true
+        output-fits = eq-eqb _ _ (rw e at fits′)
+
+        pub refused-working : {r : Report} → (length working ≡ p .row .«decode_bf_working_len» → ⊥) → r ≡ refusal 4
+            → left r output working ≡ outcome code input output working limit
+        unfolding outcome
+        refused-working h er =
+            let w : eqb (length working) (rowOf code .«decode_bf_working_len») ≡ false = ne-eqb _ _ (rw e at h) in
+            rw (er, lt-ltb code codes (asked-known code e known), input-fits, output-fits, w)
+
+        pub accepted-call : {x : Outcome} → length working ≡ p .row .«decode_bf_working_len» → x ≡ decoded code input limit → x ≡ outcome code input output working limit
+        unfolding outcome
+        accepted-call h ex =
+            let w : eqb (length working) (rowOf code .«decode_bf_working_len») ≡ true = eq-eqb _ _ (rw e at h) in
+            rw (lt-ltb code codes (asked-known code e known), input-fits, output-fits, w) ex
+
+        pub accepted-by : length working ≡ p .row .«decode_bf_working_len»
+            → Accepted code (p .row .n) (p .row .n + p .row .«punctured_bits» - p .row .k) (length input) (length output) (length working)
+        accepted-by h =
+            record { known = asked-known code e known; sent = rw e; checks = rw e; input-long = fits ∙ rw e; output-long = fits′ ∙ rw e; working-long = h ∙ rw e }
