@@ -9,6 +9,7 @@ use Rattle.maths.specs.Tests.{pick}
 use Rattle.codes.specs.declared.CodeParams.{CodeParams}
 use Rattle.codes.specs.Answers.{test, firstOf, unlike}
 use Rattle.codes.specs.Codes.{known, rowOf}
+use Rattle.bit_flip.specs.Outcome as flips
 use Rattle.min_sum.specs.Outcomes.{Outcome}
 
 -- ten numbers in the order of the fields
@@ -32,6 +33,20 @@ paramsOutcome code to =
 -- success as a number
 abbrev pub flag : Bool → ℕ
 flag b = pick b 1 0
+
+-- what bit flipping leaves
+pub record Hard : Type 0 where
+  pub answer : ℕ
+  pub success : ℕ
+  pub iters : ℕ
+  pub output : List ℕ
+  pub working : List ℕ
+
+abbrev pub hard : ℕ → ℕ → ℕ → List ℕ → List ℕ → Hard
+hard a b n o w = record { answer = a; success = b; iters = n; output = o; working = w }
+
+abbrev pub hardDoor : flips.Outcome → Hard
+hardDoor x = hard (x .report .answer) (flag (x .report .success)) (x .report .iters) (x .output) (x .working)
 
 -- what min-sum leaves
 pub record Soft : Type 0 where

@@ -4,9 +4,10 @@ ghost use mathlib.Core.Path.{_≡_};
 ghost use lib.ListN.{length};
 ghost use Rattle.maths.specs.Tests.{pick};
 ghost use Rattle.encoder.specs.Outcomes.{encoded, encodeOutcome, copyEncodeOutcome};
+ghost use Rattle.bit_flip.specs.Outcome.{outcome};
 ghost use Rattle.min_sum.specs.Confidence.{i8};
 ghost use Rattle.min_sum.specs.Outcomes.{written, toLlrsOutcome, toHardOutcome, decodeOutcome};
-ghost use Rattle.labrador_ldpc.specs.Doors.{numbers, row, paramsOutcome, flag, soft, softDoor};
+ghost use Rattle.labrador_ldpc.specs.Doors.{numbers, row, paramsOutcome, flag, hard, hardDoor, soft, softDoor};
 use codes::ACCEPTED;
 use codes::CodeParams;
 use codes::WRONG_WRITTEN;
@@ -76,6 +77,24 @@ fn as_byte(b: bool) -> u8
     ensures { λ r. ⌜ r ≡ flag b ⌝ }
 {
     if b { 1 } else { 0 }
+}
+
+#[no_mangle]
+pub extern "C" fn ldpc_decode_bf(
+    code: usize,
+    input: &[u8],
+    output: &mut [u8],
+    working: &mut [u8],
+    maxiters: usize,
+    success: &mut u8,
+    iters: &mut usize,
+) -> u8
+    ensures { λ r. ⌜ hard r (now (success .exit)) (now (iters .exit)) (now (output .exit)) (now (working .exit)) ≡ hardDoor (outcome code (now (input .entry)) (now (output .entry)) (now (working .entry)) maxiters) ⌝ }
+{
+    let r = bit_flip::decode_bf(code, input, output, working, maxiters);
+    *success = as_byte(r.success);
+    *iters = r.iters;
+    r.answer
 }
 
 #[no_mangle]

@@ -74,7 +74,6 @@ table-same f g l m n e i j k hi hj hk =
 
 -- the test holds of what is kept
 pub keep-holds : {A : Type 0} (f : A → Bool) (xs : List A) → T (all f (keep f xs))
-unfolding keep
 keep-holds f [] = tt
 keep-holds f (x ∷ xs) = go (f x) refl (keep-holds f xs)
   where
