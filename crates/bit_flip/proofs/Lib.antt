@@ -1,3 +1,4 @@
 pub mod Scores
 pub mod Votes
 pub mod Whole
+pub mod Theorems

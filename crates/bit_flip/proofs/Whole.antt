@@ -13,7 +13,7 @@ use Rattle.maths.specs.Bits.{bitAt}
 use Rattle.maths.specs.Lists.{span}
 use Rattle.maths.specs.Budget.{end}
 use Rattle.maths.proofs.Tests.{pick-both}
-use Rattle.maths.proofs.Lists.{span-ext}
+use Rattle.maths.proofs.Lists.{span-length, span-ext}
 use Rattle.maths.proofs.Slices.{overwrite-at}
 use Rattle.bits.specs.Packed.{wholeBytes, byteOf, unpacked}
 use Rattle.bits.proofs.Packed.{bit-low, bit-past}
@@ -48,6 +48,10 @@ pub received-bits : (s : List ℕ) (t : ℕ) {b : List ℕ} → b ≡ span (bitA
 received-bits s t e = rw e (span-bits (bitAt s) (bit-low s) t)
 
 -- ---- what the erasure passes keep, and count
+pub voted-length : (erased : ℕ → Bool) (es : List Edge) (w : List ℕ) → length (voted erased es w) ≡ length w
+unfolding voted
+voted-length erased es w = span-length _ 0 (length w)
+
 pub filled-bits : (erased : ℕ → Bool) (es : List Edge) (p limit : ℕ) (w : List ℕ) → Bits w → {w′ : List ℕ} {n : ℕ} → filled w′ n ≡ erasurePasses erased es p limit w → Bits w′
 unfolding erasurePasses voted
 filled-bits erased es p limit w bits e =

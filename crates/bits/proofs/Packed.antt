@@ -9,8 +9,8 @@ use lib.ListN.{length, getD, List·getD-eq-default}
 use lib.Seq.{sets, ext-getD}
 use Rattle.maths.specs.Bits.{bitAt}
 use Rattle.maths.specs.Lists.{span, overwrite}
-use Rattle.maths.proofs.Lists.{span-length}
-use Rattle.maths.proofs.Slices.{span-get, span-is, overwrite-sets, overwrite-at, overwrite-all, overwrite-length}
+use Rattle.maths.proofs.Lists.{span-ext}
+use Rattle.maths.proofs.Slices.{span-get, span-again, overwrite-sets, overwrite-at, overwrite-all, overwrite-length}
 use Rattle.bits.specs.Packed.{wholeBytes, eight, byteFrom, byteOf, unpacked, packed}
 
 -- ---- unpacking: the eight bits of byte i
@@ -116,17 +116,17 @@ whole-byte x h =
     (sum-up x (x / 2) (x / 4) (x / 8) (x / 16) (x / 32) (x / 64) (x / 128) (x / 64 % 2) (x / 32 % 2) (x / 16 % 2) (x / 8 % 2) (x / 4 % 2) (x / 2 % 2) (x % 2)
     (omega arith) (omega arith) (omega arith) (omega arith) (omega arith) (omega arith) (omega arith))
 
--- n bytes, below 256, from the first n + k bytes' worth of bits
-pub packed-again : (s : List ℕ) (m : ℕ) → ((i : ℕ) → getD s i 0 < 256) → 8 * length s ≤ m → span (byteOf (span (bitAt s) 0 m)) 0 (length s) ≡ s
+-- n bytes of a string of bytes, 0 past its end
+pub packed-bytes : (s : List ℕ) (m n : ℕ) → ((i : ℕ) → getD s i 0 < 256) → 8 * n ≤ m → span (byteOf (span (bitAt s) 0 m)) 0 n ≡ span (λ i. getD s i 0) 0 n
 unfolding byteOf
-packed-again s m low h = sym (span-is s (byteOf (span (bitAt s) 0 m)) (length s) refl (λ i k. sym (byte i k)))
+packed-bytes s m n low h = span-ext _ _ 0 0 n (λ i k. byte (0 + i) (omega arith))
   where
-    bit : (i j v : ℕ) → i < length s → j < 8 → v ≡ 8 * i + j → getD (span (bitAt s) 0 m) v 0 % 2 ≡ getD s i 0 / 2 ^ (7 - j) % 2
+    bit : (i j v : ℕ) → i < n → j < 8 → v ≡ 8 * i + j → getD (span (bitAt s) 0 m) v 0 % 2 ≡ getD s i 0 / 2 ^ (7 - j) % 2
     bit i j v k l e =
         let b : v < m = omega arith in
         rw (span-get (bitAt s) 0 m v b) (omega (arith, place s i j (getD s i 0) v l e refl))
 
-    byte : (i : ℕ) → i < length s → byteOf (span (bitAt s) 0 m) i ≡ getD s i 0
+    byte : (i : ℕ) → i < n → byteOf (span (bitAt s) 0 m) i ≡ getD s i 0
     byte i k =
         let x = getD s i 0 in
         let b0 : getD (span (bitAt s) 0 m) (8 * i) 0 % 2 ≡ x / 128 % 2 = bit i 0 (8 * i) k (omega arith) (omega arith) in
@@ -138,3 +138,7 @@ packed-again s m low h = sym (span-is s (byteOf (span (bitAt s) 0 m)) (length s)
         let b6 : getD (span (bitAt s) 0 m) (8 * i + 6) 0 % 2 ≡ x / 2 % 2 = bit i 6 (8 * i + 6) k (omega arith) refl in
         let b7 : getD (span (bitAt s) 0 m) (8 * i + 7) 0 % 2 ≡ x % 2 = bit i 7 (8 * i + 7) k (omega arith) refl ∙ omega arith in
         rw (b0, b1, b2, b3, b4, b5, b6, b7) (whole-byte x (low i))
+
+-- all of them
+pub packed-again : (s : List ℕ) (m : ℕ) → ((i : ℕ) → getD s i 0 < 256) → 8 * length s ≤ m → span (byteOf (span (bitAt s) 0 m)) 0 (length s) ≡ s
+packed-again s m low h = packed-bytes s m (length s) low h ∙ span-again s

@@ -14,7 +14,7 @@ use Rattle.codes.specs.declared.MatrixTables.{MatrixTables}
 use Rattle.codes.specs.declared.«parity_iter».Block.{Block}
 use Rattle.codes.specs.declared.«parity_iter».Block.the-variants.{Ends, Empty, Identity, Permutation}
 use Rattle.codes.specs.Tables.{prototypes}
-use Rattle.codes.specs.Codes.{codes, Known, rows, row, rowOf, bitsIn, checksIn, tables, tablesOf, prototypeOf}
+use Rattle.codes.specs.Codes.{codes, Known, tcCodes, TC, rows, row, rowOf, bitsIn, checksIn, tables, tablesOf, prototypeOf}
 use Rattle.codes.specs.Blocks.{byteAt, blockOf}
 use Rattle.codes.specs.Sound.{Sized, Small, Roomy}
 
@@ -65,6 +65,11 @@ roomy code h =
       whole = below-eq codes (λ c. 8 * rowOf c .«output_len») bitsIn tt code h;
       working = lengths code h .bit-flipping;
     }
+
+-- every bit of a TC code is sent
+pub tc-sent : (code : ℕ) → TC code → rowOf code .«punctured_bits» ≡ 0
+unfolding rows
+tc-sent code h = below-eq tcCodes (λ c. rowOf c .«punctured_bits») (λ c. 0) tt code h
 
 -- the tables of every code are there
 tables-test : MatrixTables → Bool

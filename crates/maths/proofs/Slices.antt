@@ -2,14 +2,15 @@
 use mathlib.Core.Bool.{Bool, true, false}
 use mathlib.Core.List.{List, [], _∷_, _++_, map, append-nil, append-assoc}
 use mathlib.Core.Path.{_≡_, refl, sym, ap, _∙_}
-use Prim.Native.Nat.{ℕ, zero, suc, _+_, _*_, _/_, _≤_, _<_, max}
+use Prim.Native.Nat.{ℕ, zero, suc, _+_, _-_, _≤_, _<_, max}
 use native.Mathlib.Nat.{add-zero, zero-add, add-suc, suc-add, max-zero, le-of-suc-le-suc, not-suc-le-zero}
 use native.Mathlib.Numerals.{add-one}
+use native.Mathlib.Decide.{decLt}
 use native.Mathlib.Omega.{arith}
 use borrow.Author.Tests.{ne-eqb}
 use lib.Dec.{eqb, eqb·suc-zero}
-use lib.ListN.{length, getD, set, drop, replicate, length-append, length-drop, drop-of-length-le, List·getD-append}
-use lib.Seq.{sets, drop-cons, set-at, set-getD, getD-at, ext-getD}
+use lib.ListN.{length, getD, set, drop, replicate, length-append, length-drop, length-replicate, getD-replicate, drop-of-length-le, List·getD-append, List·getD-eq-default}
+use lib.Seq.{sets, drop-cons, set-at, set-getD, getD-at, getD-append-add, ext-getD}
 use Rattle.maths.specs.Tests.{both, below}
 use Rattle.maths.specs.Lists.{span, fold, largestOf, overwrite}
 use Rattle.maths.proofs.Lists.{span-split, span-length, span-ext, getD-span}
@@ -25,6 +26,23 @@ span-is l f n e h =
 
 pub span-again : (l : List ℕ) → span (λ i. getD l i 0) 0 (length l) ≡ l
 span-again l = sym (span-is l (λ i. getD l i 0) (length l) refl (λ i h. refl))
+
+-- a list read past its end
+pub span-padded : (l : List ℕ) (n : ℕ) → length l ≤ n → span (λ i. getD l i 0) 0 n ≡ l ++ replicate (n - length l) 0
+span-padded l n h = sym (span-is (l ++ zeros) (λ i. getD l i 0) n (length-append l zeros ∙ omega (arith, length-replicate {A = ℕ} (n - length l) 0)) at)
+  where
+    zeros : List ℕ
+    zeros = replicate (n - length l) 0
+
+    at : (i : ℕ) → i < n → getD (l ++ zeros) i 0 ≡ getD l i 0
+    at i k = by (decLt i (length l))
+      where
+        by : Dec (i < length l) → getD (l ++ zeros) i 0 ≡ getD l i 0
+        by (yes g) = List·getD-append l zeros 0 i g
+        by (no g) =
+            let e : length l + (i - length l) ≡ i = omega arith in
+            rw (← e) (getD-append-add l zeros (i - length l) 0 ∙ getD-replicate {A = ℕ} (n - length l) (i - length l) 0 0 (omega arith))
+            ∙ sym (List·getD-eq-default l 0 (omega arith))
 
 pub span-map : (g : ℕ → ℕ) (l : List ℕ) → span (λ i. g (getD l i 0)) 0 (length l) ≡ map g l
 span-map g l = sym (span-is (map g l) _ (length l) (mapped-length l) (mapped-at l))

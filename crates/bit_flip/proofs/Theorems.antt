@@ -1,0 +1,200 @@
+-- What holds of every outcome of bit flipping. Assumes nothing.
+--     success-meets     a success meets every parity equation
+--     clean             a TC word that meets the equations is returned as it is, at pass 0
+--     limit-none        without an iteration the output is the input followed by zeros
+use mathlib.Core.Bool.{Bool, true, false}
+use mathlib.Core.List.{List, [], _∷_, _++_}
+use mathlib.Core.Path.{_≡_, refl, sym, ap, subst, _∙_, fun-ext}
+use Prim.Native.Nat.{ℕ, zero, suc, _+_, _-_, _*_, _/_, _%_, _≤_, _<_}
+use native.Mathlib.Decide.{decLt}
+use native.Mathlib.Omega.{arith}
+use borrow.Author.Tests.{eqb-true, eq-eqb, ltb-true, lt-ltb}
+use lib.Dec.{eqb, ltb}
+use lib.ListN.{length, getD, replicate, List·getD-eq-default}
+use Rattle.maths.specs.Tests.{pick, both}
+use Rattle.maths.specs.Bits.{bitAt}
+use Rattle.maths.specs.Lists.{span}
+use Rattle.maths.specs.Budget.{Turn, stop, go, End, end, run}
+use Rattle.maths.proofs.Tests.{pick-both}
+use Rattle.maths.proofs.Lists.{span-length}
+use Rattle.maths.proofs.Slices.{span-get, span-padded}
+use Rattle.maths.proofs.Budget.{run-success, run-kept, run-at-once}
+use Rattle.bits.specs.Packed.{byteOf}
+use Rattle.bits.proofs.Packed.{bit-low, bit-past, packed-at, packed-bytes, packed-again}
+use Rattle.codes.specs.Answers.{firstOf}
+use Rattle.codes.specs.Codes.{codes, Known, TC, known, rowOf, bitsIn, checksIn}
+use Rattle.codes.specs.Edges.{Edge, edges}
+use Rattle.codes.specs.Equations.{Meets, holds, wordOf}
+use Rattle.codes.proofs.Codes.{roomy, tc-sent}
+use Rattle.codes.proofs.Parity.{holds-hold, hold-holds}
+use Rattle.report.specs.Report.{refusal, ending}
+use Rattle.bit_flip.specs.Flip.{flipped, pass, passes}
+use Rattle.bit_flip.specs.Erasures.{voted, Filled, erasurePasses}
+use Rattle.bit_flip.specs.Outcome.{Outcome, left, decodeWord, received, punctured, decoded, tests, outcome}
+use Rattle.bit_flip.specs.Steps.{Bits}
+use Rattle.bit_flip.proofs.Scores.{span-bits, flipped-length, flipped-bits}
+use Rattle.bit_flip.proofs.Votes.{no-bits, no-limit}
+use Rattle.bit_flip.proofs.Whole.{received-bits, voted-length, filled-bits}
+
+-- ---- bits as bytes: the same word
+packed-word : (w : List ℕ) (n : ℕ) → length w ≡ 8 * n → Bits w → bitAt (span (byteOf w) 0 n) ≡ wordOf w
+packed-word w n e bits = fun-ext (λ v. at v (decLt v (8 * n)))
+  where
+    at : (v : ℕ) → Dec (v < 8 * n) → bitAt (span (byteOf w) 0 n) v ≡ wordOf w v
+    at v (yes h) = packed-at n w v h ∙ omega (arith, bits v)
+    at v (no h) =
+        bit-past (span (byteOf w) 0 n) v (omega (arith, span-length (byteOf w) 0 n)) ∙ sym (List·getD-eq-default w 0 (omega arith))
+
+-- ---- a pass: what it stops with, and what it keeps
+module _ (es : List Edge) (m : ℕ) where
+  stopped : (s t : List ℕ) → pass es m s ≡ stop t → (s ≡ t) × (holds es m (wordOf t) ≡ true)
+  unfolding pass
+  stopped s t = by (holds es m (wordOf s)) refl
+    where
+      by : (b : Bool) → holds es m (wordOf s) ≡ b → pick b (stop s) (go (flipped es s)) ≡ stop t → (s ≡ t) × (holds es m (wordOf t) ≡ true)
+      by true h e = let q : s ≡ t = cc in (q, rw (← q) h)
+      by false h e = absurd (let z : _≡_ {A = ℕ} 0 1 = cc in omega arith)
+
+  clean-pass : (s : List ℕ) → holds es m (wordOf s) ≡ true → pass es m s ≡ stop s
+  unfolding pass
+  clean-pass s e = rw e
+
+  gone : (s t : List ℕ) → pass es m s ≡ go t → t ≡ flipped es s
+  unfolding pass
+  gone s t = by (holds es m (wordOf s))
+    where
+      by : (b : Bool) → pick b (stop s) (go (flipped es s)) ≡ go t → t ≡ flipped es s
+      by true e = absurd (let z : _≡_ {A = ℕ} 0 1 = cc in omega arith)
+      by false e = cc
+
+  passes-success : (limit : ℕ) (w : List ℕ) → passes es m limit w .success ≡ true → holds es m (wordOf (passes es m limit w .state)) ≡ true
+  passes-success limit w e = run-success (pass es m) (λ s. holds es m (wordOf s) ≡ true) (λ s t q. stopped s t q .1) limit 0 w e
+
+  passes-bits : (limit : ℕ) (w : List ℕ) → Bits w → Bits (passes es m limit w .state)
+  passes-bits limit w h =
+      run-kept (pass es m) Bits (λ s t q b. subst Bits (stopped s t q .0) b) (λ s t q b. subst Bits (sym (gone s t q)) (flipped-bits es s b)) limit 0 w h
+
+  passes-length : (limit : ℕ) (w : List ℕ) → length (passes es m limit w .state) ≡ length w
+  passes-length limit w =
+      run-kept (pass es m) (λ s. length s ≡ length w) (λ s t q l. subst (λ (x : List ℕ). length x ≡ length w) (stopped s t q .0) l)
+      (λ s t q l. subst (λ (x : List ℕ). length x ≡ length w) (sym (gone s t q)) (flipped-length es s ∙ l)) limit 0 w refl
+
+-- ---- a call that passes its tests
+abbrev answerOf : ℕ → List ℕ → List ℕ → List ℕ → ℕ
+answerOf code input output working = firstOf (tests code (length input) (length output) (length working))
+
+module _ (code : ℕ) (input output working : List ℕ) (limit : ℕ) where
+  is-accepted : answerOf code input output working ≡ 0 → outcome code input output working limit ≡ decoded code input limit
+  unfolding outcome
+  is-accepted e = rw (eq-eqb (answerOf code input output working) 0 e)
+
+  -- a success was accepted
+  succeeded : outcome code input output working limit .report .success ≡ true → answerOf code input output working ≡ 0
+  unfolding outcome
+  succeeded = by (eqb (answerOf code input output working) 0) refl
+    where
+      by : (b : Bool) → eqb (answerOf code input output working) 0 ≡ b
+          → pick b (decoded code input limit) (left (refusal (answerOf code input output working)) output working) .report .success ≡ true
+          → answerOf code input output working ≡ 0
+      by true h e = eqb-true (answerOf code input output working) 0 h
+      by false h e = absurd (let z : _≡_ {A = ℕ} 0 1 = cc in omega arith)
+
+  module _ (e : answerOf code input output working ≡ 0) where
+    accepted-known : Known code
+    accepted-known = by (known code) refl
+      where
+        by : (b : Bool) → known code ≡ b → Known code
+        by true k = ltb-true code codes k
+        by false k = absurd (let z : _≡_ {A = ℕ} 1 0 = rw k at e in omega arith)
+
+    accepted-input : length input ≡ rowOf code .n / 8
+    accepted-input = by (eqb (length input) (rowOf code .n / 8)) refl
+      where
+        by : (b : Bool) → eqb (length input) (rowOf code .n / 8) ≡ b → length input ≡ rowOf code .n / 8
+        by true k = eqb-true (length input) (rowOf code .n / 8) k
+        by false k = absurd (let z : _≡_ {A = ℕ} 2 0 = rw (lt-ltb code codes accepted-known, k) at e in omega arith)
+
+-- ---- the word that decoding leaves
+module _ (code limit : ℕ) (input : List ℕ) where
+  first : List ℕ
+  first = erasurePasses (punctured code) (edges code) (rowOf code .«punctured_bits») limit (received code input) .word
+
+  first-bits : Bits first
+  unfolding first
+  first-bits = filled-bits (punctured code) (edges code) (rowOf code .«punctured_bits») limit (received code input) (received-bits input (bitsIn code) refl) refl
+
+  first-length : length first ≡ bitsIn code
+  unfolding first erasurePasses
+  first-length =
+      pick-both (λ (w : List ℕ). length w ≡ bitsIn code) (both (ltb 0 (rowOf code .«punctured_bits»)) (ltb 0 limit)) (voted (punctured code) (edges code) (received code input)) (received code input)
+      (voted-length (punctured code) (edges code) (received code input) ∙ whole) whole
+    where
+      whole : length (received code input) ≡ bitsIn code
+      whole = span-length (bitAt input) 0 (bitsIn code)
+
+  last : List ℕ
+  last = passes (edges code) (checksIn code) limit first .state
+
+  last-word : Known code → bitAt (decoded code input limit .output) ≡ wordOf last
+  unfolding decoded decodeWord first last
+  last-word h =
+      packed-word last (rowOf code .«output_len»)
+      (passes-length (edges code) (checksIn code) limit first ∙ first-length ∙ sym (roomy code h .whole))
+      (passes-bits (edges code) (checksIn code) limit first first-bits)
+
+  last-holds : decoded code input limit .report .success ≡ true → holds (edges code) (checksIn code) (wordOf last) ≡ true
+  unfolding decoded decodeWord first last
+  last-holds e = passes-success (edges code) (checksIn code) limit first e
+
+-- "whatever it calls a success meets every parity equation"
+pub success-meets : (code : ℕ) (input output working : List ℕ) (limit : ℕ) → outcome code input output working limit .report .success ≡ true
+    → Meets code (bitAt (outcome code input output working limit .output))
+success-meets code input output working limit e =
+    let a = succeeded code input output working limit e in
+    let d = is-accepted code input output working limit a in
+    let h = accepted-known code input output working limit a in
+    let s : decoded code input limit .report .success ≡ true = rw d at e in
+    rw (d, last-word code limit input h) (holds-hold (edges code) (checksIn code) (wordOf (last code limit input)) (last-holds code limit input s))
+
+-- ---- the bits of a byte string that is long enough
+received-word : (s : List ℕ) (t : ℕ) → 8 * length s ≤ t → wordOf (span (bitAt s) 0 t) ≡ bitAt s
+received-word s t h = fun-ext (λ v. at v (decLt v t))
+  where
+    at : (v : ℕ) → Dec (v < t) → wordOf (span (bitAt s) 0 t) v ≡ bitAt s v
+    at v (yes k) = span-get (bitAt s) 0 t v k
+    at v (no k) =
+        List·getD-eq-default (span (bitAt s) 0 t) 0 (omega (arith, span-length (bitAt s) 0 t)) ∙ sym (bit-past s v (omega arith))
+
+-- every element is a byte
+abbrev pub Bytes : List ℕ → Type 0
+Bytes s = (i : ℕ) → getD s i 0 < 256
+
+-- "on a TC word that meets the equations, with maxiters at least 1, it answers (true, 0) and the word"
+pub clean : (code : ℕ) (input output working : List ℕ) (limit : ℕ) → TC code → answerOf code input output working ≡ 0 → Bytes input
+    → Meets code (bitAt input) → 1 ≤ limit → outcome code input output working limit ≡ left (ending true 0) input (replicate (bitsIn code) 0)
+unfolding decoded decodeWord
+clean code input output working limit tc e low meets h =
+    let k = accepted-known code input output working limit e in
+    let i = accepted-input code input output working limit e in
+    let r = roomy code k in
+    let z = tc-sent code tc in
+    let f = sym (no-bits (punctured code) (edges code) (rowOf code .«punctured_bits») limit (received code input) z) in
+    let l : 8 * length input ≡ bitsIn code = omega (arith, r .sent) in
+    let o : rowOf code .«output_len» ≡ length input = omega (arith, r .whole) in
+    let w : wordOf (received code input) ≡ bitAt input = received-word input (bitsIn code) (omega arith) in
+    let p : pass (edges code) (checksIn code) (received code input) ≡ stop (received code input) =
+    clean-pass (edges code) (checksIn code) (received code input) (rw w (hold-holds (edges code) (checksIn code) (bitAt input) meets)) in
+    is-accepted code input output working limit e
+    ∙ rw (f, run-at-once (pass (edges code) (checksIn code)) limit (received code input) (received code input) h p, o, packed-again input (bitsIn code) low (omega arith))
+
+-- "With maxiters 0: (false, 0), the input followed by zeros", whatever the input
+pub limit-none : (code : ℕ) (input output working : List ℕ) → answerOf code input output working ≡ 0 → Bytes input
+    → outcome code input output working 0 ≡ left (ending false 0) (input ++ replicate (rowOf code .«output_len» - length input) 0) (replicate (bitsIn code) 0)
+unfolding decoded decodeWord run
+limit-none code input output working e low =
+    let k = accepted-known code input output working 0 e in
+    let i = accepted-input code input output working 0 e in
+    let r = roomy code k in
+    let f = sym (no-limit (punctured code) (edges code) (rowOf code .«punctured_bits») 0 (received code input) refl) in
+    is-accepted code input output working 0 e
+    ∙ rw (f, packed-bytes input (bitsIn code) (rowOf code .«output_len») low (omega (arith, r .whole)), span-padded input (rowOf code .«output_len») (omega (arith, r .whole, r .sent)))
