@@ -62,7 +62,7 @@ decode-lent code row llrs output working signs e f =
     }
 
 module _ {C : Type 0} (o : Confidence C) (code : ℕ) (llrs : List C) (output : List ℕ) (working : List C) (signs : List ℕ) (maxiters : ℕ)
-  {n : ℕ} (e : n ≡ decodeAnswer code (length llrs) (length output) (length working) (length signs)) where
+    {n : ℕ} (e : n ≡ decodeAnswer code (length llrs) (length output) (length working) (length signs)) where
   pub decode-refused : (n ≡ 0 → ⊥) → left (refusal n) output working signs ≡ decodeOutcome o code llrs output working signs maxiters
   unfolding decodeOutcome
   decode-refused h = rw (← e, ne-eqb n 0 h)

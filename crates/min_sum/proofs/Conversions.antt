@@ -64,7 +64,7 @@ unfolding convertAnswer
 convert-none code a b c d h e f = rw (lt-ltb code 7 h, eq-eqb a b e, eq-eqb c d f)
 
 module _ (code : ℕ) (input output : List ℕ) (llrs : List ℤ) (h : Known code) (il : length input ≡ rowOf code .n / 8) (ol : length output ≡ rowOf code .n / 8)
-  (ll : length llrs ≡ rowOf code .n) where
+    (ll : length llrs ≡ rowOf code .n) where
   pub to-llrs : toLlrsOutcome code input llrs .buffer ≡ toLlrs (negsuc 0) (pos 1) input
   unfolding toLlrsOutcome
   to-llrs = rw (convert-none code (length input) (rowOf code .n / 8) (length llrs) (rowOf code .n) h il ll)

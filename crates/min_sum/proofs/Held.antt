@@ -90,7 +90,14 @@ module _ (l : Layout) (w : List ℤ) (s : List ℕ) (e a v : ℕ) (z : Sized l (
         part-before (2 * l .edges + l .bits) (l .checks) w e u (omega arith),
         part-before (2 * l .edges + l .bits + l .checks) (l .checks) y i x (omega arith),
         part-before (2 * l .edges + l .bits + l .checks) (l .checks) w e u (omega arith),
-        v-at, first-at, second-at, marginal-at, List·getD-map negativeIn s a 0, ex, eu)
+        v-at,
+        first-at,
+        second-at,
+        marginal-at,
+        List·getD-map negativeIn s a 0,
+        ex,
+        eu,
+      )
 
   -- the stores of a message x, of the minima f and g, and of the check's byte; m is the marginal
   pub taken : {x m f g : ℤ} {b : ℕ}
@@ -126,5 +133,18 @@ module _ (l : Layout) (w : List ℤ) (s : List ℕ) (e a v : ℕ) (z : Sized l (
         part-before (2 * l .edges + l .bits + l .checks) (l .checks) w i x (omega arith),
         map-set negativeIn s a (bitXor (getD s a 0) b),
         map-set oddIn s a (bitXor (getD s a 0) b),
-        List·getD-map negativeIn s a 0, List·getD-map oddIn s a 0,
-        u-at, v-at, first-at, second-at, marginal-at, eb, turned-negative (getD s a 0) (i8 .hard x) (i8 .hard m), turned-odd (getD s a 0) (i8 .hard x) (i8 .hard m), eg, ef, ex, em)
+        List·getD-map negativeIn s a 0,
+        List·getD-map oddIn s a 0,
+        u-at,
+        v-at,
+        first-at,
+        second-at,
+        marginal-at,
+        eb,
+        turned-negative (getD s a 0) (i8 .hard x) (i8 .hard m),
+        turned-odd (getD s a 0) (i8 .hard x) (i8 .hard m),
+        eg,
+        ef,
+        ex,
+        em,
+      )

@@ -86,8 +86,7 @@ module _ (l : Layout) (t : ℕ) (r : Run) (rs : List Run) (h : Rest l t (r ∷ r
 
 -- a loop over the runs at turn i, after t edges; x, y and z are the numbers of its run
 module _ (l : Layout) (ns : List ℕ) (i t : ℕ) (h : Rest l t (readRuns (drop (3 * i) ns))) (k : 3 * i + 2 < length ns)
-  {x y z : ℕ} (ex : x ≡ getD ns (3 * i) 0) (ey : y ≡ getD ns (3 * i + 1) 0) (ez : z ≡ getD ns (3 * i + 2) 0) where
-
+    {x y z : ℕ} (ex : x ≡ getD ns (3 * i) 0) (ey : y ≡ getD ns (3 * i + 1) 0) (ez : z ≡ getD ns (3 * i + 2) 0) where
   next : readRuns (drop (3 * i) ns) ≡ run x y z ∷ readRuns (drop (3 * (i + 1)) ns)
   next = rw (ex, ey, ez) (runs-next ns i k)
 

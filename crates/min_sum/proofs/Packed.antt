@@ -88,7 +88,8 @@ own-byte s i h =
       own-bit s i 4 (8 * i + 4) (omega arith) (omega arith),
       own-bit s i 5 (8 * i + 4 + 1) (omega arith) (omega arith),
       own-bit s i 6 (8 * i + 4 + 2) (omega arith) (omega arith),
-      own-bit s i 7 (8 * i + 4 + 3) (omega arith) (omega arith))
+      own-bit s i 7 (8 * i + 4 + 3) (omega arith) (omega arith),
+    )
     (whole-byte (getD s i 0) h)
 
 -- bytes are made of their own bits

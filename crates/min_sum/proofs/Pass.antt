@@ -60,7 +60,8 @@ module _ (l : Layout) (w : List ℤ) (z : length w ≡ 2 * l .edges + l .bits + 
         before (l .edges) (l .edges) (omega arith),
         sums,
         after (a + l .bits) (l .checks) (omega arith) (omega arith),
-        after (a + l .bits + l .checks) (l .checks) (omega arith) (omega arith))
+        after (a + l .bits + l .checks) (l .checks) (omega arith) (omega arith),
+      )
 
   -- the minima and signs restart
   pub renew-held : (s : List ℕ) {s₁ : List ℕ} {w₁ : List ℤ}
@@ -86,11 +87,12 @@ module _ (l : Layout) (w : List ℤ) (z : length w ≡ 2 * l .edges + l .bits + 
         (rw add-zero at (in-it 0 (omega arith))),
         in-it m (omega arith),
         es,
-        map-replicate negativeIn m 0)
+        map-replicate negativeIn m 0,
+      )
 
 -- the pass
 module _ (l : Layout) (es : List Edge) (llrs : List ℤ) (w : List ℤ) (s : List ℕ) (z : Sized l (length w) (length s)) (few : length llrs ≤ l .bits)
-  (ranged : T (all (inRange (l .checks) (l .bits)) es)) where
+    (ranged : T (all (inRange (l .checks) (l .bits)) es)) where
   checked-held : (x : List ℤ) (t : List ℕ) → heldChecked l x t .messages ≡ held l x t
   unfolding heldChecked
   checked-held x t = refl

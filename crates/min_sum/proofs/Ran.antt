@@ -47,7 +47,8 @@ start-held l es llrs w s n z e few ew es₁ =
       part-replicate (2 * l .edges) (l .bits) n (pos 0) (omega arith),
       part-replicate (2 * l .edges + l .bits) (l .checks) n (pos 0) (omega arith),
       part-replicate (2 * l .edges + l .bits + l .checks) (l .checks) n (pos 0) (omega arith),
-      map-replicate negativeIn (l .checks) 0)
+      map-replicate negativeIn (l .checks) 0,
+    )
 
 pub edges-long : {l : Layout} {rs : List Run} {n : ℕ} → Ready l rs n → length (flatMap runEdges rs) ≡ l .edges
 edges-long h = rw zero-add at (h .runs .all-edges)
@@ -57,7 +58,7 @@ unfolding held
 held-marginals l w s = refl
 
 module _ (l : Layout) (es : List Edge) (llrs w : List ℤ) (s : List ℕ) (maxiters : ℕ) (z : Sized l (length w) (length s)) (e : length es ≡ l .edges)
-  (few : length llrs ≤ l .bits) where
+    (few : length llrs ≤ l .bits) where
   pub decoded-by : {b : Bool} {n : ℕ} {o₁ : List ℕ} {w₁ w₃ : List ℤ} {s₁ : List ℕ} (m : ℕ) (w₂ : List ℤ) (s₂ : List ℕ)
       → s₁ ≡ replicate (length s) 0 → w₁ ≡ replicate (length w) (pos 0)
       → end b n (held l w₂ s₂) ≡ run (turn i8 es (l .checks) (l .bits - length llrs) llrs) maxiters 0 (held l w₁ s₁) → length w₂ ≡ length w

@@ -29,12 +29,12 @@ unfoldable pub decodeAnswer : ℕ → ℕ → ℕ → ℕ → ℕ → ℕ
 decodeAnswer code llrs output working signs =
     let row = rowOf code in
     firstOf (
-      test (not (known code)) 1 ∷
-      test (unlike llrs (row .n)) 2 ∷
-      test (unlike output (row .«output_len»)) 3 ∷
-      test (unlike working (row .«decode_ms_working_len»)) 4 ∷
-      test (unlike signs (row .«decode_ms_working_u8_len»)) 5 ∷
-      [])
+    test (not (known code)) 1 ∷
+    test (unlike llrs (row .n)) 2 ∷
+    test (unlike output (row .«output_len»)) 3 ∷
+    test (unlike working (row .«decode_ms_working_len»)) 4 ∷
+    test (unlike signs (row .«decode_ms_working_u8_len»)) 5 ∷
+    [])
 
 module _ {C : Type 0} (o : Confidence C) where
   -- "After the passes, or none, output is the marginals' hard bits"; "after an accepted call every working buffer holds zeros only"

@@ -11,13 +11,13 @@ ghost use Rattle.min_sum.specs.Confidence.{i8};
 ghost use Rattle.min_sum.specs.MinSum.{hardBits};
 ghost use Rattle.min_sum.specs.Hard.{nibbleOf, byteOf, packed, toLlrs};
 ghost use Rattle.min_sum.specs.Outcomes.{convertAnswer, written, toLlrsOutcome, toHardOutcome};
+use crate::soft::hard_bit;
 use codes::ACCEPTED;
 use codes::CODES;
 use codes::UNKNOWN_CODE;
 use codes::WRONG_READ;
 use codes::WRONG_WRITTEN;
 use codes::params;
-use crate::soft::hard_bit;
 
 fn bit(x: i8) -> u8
     ensures { λ r. ⌜ (r ≡ pick (below0 x) 1 0) × (r < 2) ⌝ }

@@ -12,8 +12,6 @@ ghost use Rattle.codes.specs.Runs.{runEdges, readRuns};
 ghost use Rattle.min_sum.specs.Confidence.{i8};
 ghost use Rattle.min_sum.specs.MinSum.{link, numbered, addMessage, turn};
 ghost use Rattle.min_sum.specs.Working.{negativeIn, markOf, held, heldChecked, takeChecked, runLinks, Sized, Inside, Rest, Ready};
-use codes::parity_iter::Bit;
-use codes::parity_iter::Check;
 use crate::soft::hard_bit;
 use crate::soft::magnitude;
 use crate::soft::new_first;
@@ -21,6 +19,8 @@ use crate::soft::new_second;
 use crate::soft::new_u;
 use crate::soft::new_v;
 use crate::soft::saturating_add;
+use codes::parity_iter::Bit;
+use codes::parity_iter::Check;
 
 // How the working buffer is laid out: u and then v, an element for each edge; the marginals, one for each bit; the first minima
 // and then the second, one for each check.
@@ -88,15 +88,7 @@ fn take_message(w: &mut [i8], marks: &mut [u8], at: Layout, e: usize, check: Che
 }
 
 // A run of edges: (check + i, bit + i), numbered e + i.
-fn add_run(
-    w: &mut [i8],
-    marks: &[u8],
-    at: Layout,
-    e: usize,
-    check: Check,
-    bit: Bit,
-    size: usize,
-)
+fn add_run(w: &mut [i8], marks: &[u8], at: Layout, e: usize, check: Check, bit: Bit, size: usize)
     requires { ⌜ Sized at (length (now w)) (length (now marks)) × Inside at e (check .0) (bit .0) size ⌝ }
     ensures { λ _. ⌜ held at (now (w .exit)) (now (marks .entry)) ≡ fold (addMessage i8) (runLinks e (check .0) (bit .0) size) (held at (now (w .entry)) (now (marks .entry))) ⌝ }
 {

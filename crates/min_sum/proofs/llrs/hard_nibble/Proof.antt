@@ -37,9 +37,14 @@ hard-nibble-spec =
     let a = c₁ .before .before .args in
     let w = now (a .w) in (
       rw (
-        c₁ .bit .ensures .0, back w8 (getD w (a .a) (pos 0)) (c₁ .before .bit-arg .given),
-        c₂ .bit2 .ensures .0, back w8 (getD w (a .a + 1) (pos 0)) (c₂ .before .bit-arg2 .given),
-        c₃ .bit3 .ensures .0, back w8 (getD w (a .a + 2) (pos 0)) (c₃ .before .bit-arg3 .given),
-        c .bit4 .ensures .0, back w8 (getD w (a .a + 3) (pos 0)) (c .before .bit-arg4 .given)),
+        c₁ .bit .ensures .0,
+        back w8 (getD w (a .a) (pos 0)) (c₁ .before .bit-arg .given),
+        c₂ .bit2 .ensures .0,
+        back w8 (getD w (a .a + 1) (pos 0)) (c₂ .before .bit-arg2 .given),
+        c₃ .bit3 .ensures .0,
+        back w8 (getD w (a .a + 2) (pos 0)) (c₃ .before .bit-arg3 .given),
+        c .bit4 .ensures .0,
+        back w8 (getD w (a .a + 3) (pos 0)) (c .before .bit-arg4 .given),
+      ),
       omega (arith, c₁ .bit .ensures .1, c₂ .bit2 .ensures .1, c₃ .bit3 .ensures .1, c .bit4 .ensures .1),
     )))
