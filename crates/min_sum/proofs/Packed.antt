@@ -1,7 +1,7 @@
 -- Bits in bytes: the bits of packed bytes, and the bytes that their own bits make. Assumes nothing.
 use mathlib.Core.List.{List}
-use mathlib.Core.Path.{_≡_, refl, sym, ap, _∙_}
-use Prim.Native.Nat.{ℕ, zero, suc, _+_, _-_, _*_, _/_, _%_, _^_, _≤_, _<_}
+use mathlib.Core.Path.{_≡_, ap, _∙_}
+use Prim.Native.Nat.{ℕ, zero, suc, _+_, _-_, _*_, _/_, _%_, _^_, _<_}
 use native.Mathlib.Omega.{arith}
 use lib.Dec.{eqb, eqb→eq}
 use lib.ListN.{length, getD, replicate}
@@ -18,51 +18,58 @@ unfolding packed
 packed-length f n = span-length _ 0 n
 
 -- the bits of a byte that is put together from them
-module _ (b₀ b₁ b₂ b₃ b₄ b₅ b₆ b₇ : ℕ) (h₀ : b₀ < 2) (h₁ : b₁ < 2) (h₂ : b₂ < 2) (h₃ : b₃ < 2) (h₄ : b₄ < 2) (h₅ : b₅ < 2) (h₆ : b₆ < 2) (h₇ : b₇ < 2) where
-  abbrev byte : ℕ
-  byte = 16 * (8 * b₀ + 4 * b₁ + 2 * b₂ + b₃) + (8 * b₄ + 4 * b₅ + 2 * b₆ + b₇)
+module _ (f : ℕ → ℕ) (a : ℕ) where
+  record Bits : Type 0 where
+    h₀ : f a < 2
+    h₁ : f (a + 1) < 2
+    h₂ : f (a + 2) < 2
+    h₃ : f (a + 3) < 2
+    h₄ : f (a + 4) < 2
+    h₅ : f (a + 4 + 1) < 2
+    h₆ : f (a + 4 + 2) < 2
+    h₇ : f (a + 4 + 3) < 2
 
-  bit-0 : byte / 128 % 2 ≡ b₀
-  bit-0 = omega arith
-
-  bit-1 : byte / 64 % 2 ≡ b₁
-  bit-1 = omega arith
-
-  bit-2 : byte / 32 % 2 ≡ b₂
-  bit-2 = omega arith
-
-  bit-3 : byte / 16 % 2 ≡ b₃
-  bit-3 = omega arith
-
-  bit-4 : byte / 8 % 2 ≡ b₄
-  bit-4 = omega arith
-
-  bit-5 : byte / 4 % 2 ≡ b₅
-  bit-5 = omega arith
-
-  bit-6 : byte / 2 % 2 ≡ b₆
-  bit-6 = omega arith
-
-  bit-7 : byte / 1 % 2 ≡ b₇
-  bit-7 = omega arith
-
-module _ (f : ℕ → ℕ) (low : (j : ℕ) → f j < 2) (a : ℕ) where
-  byte-bit : (k i : ℕ) → k < 8 → i ≡ a + k → byteOf f a / 2 ^ (7 - k) % 2 ≡ f i
-  byte-bit zero i h e = let q : a ≡ i = omega arith in bit-0 (f a) (f (a + 1)) (f (a + 2)) (f (a + 3)) (f (a + 4)) (f (a + 4 + 1)) (f (a + 4 + 2)) (f (a + 4 + 3)) (low _) (low _) (low _) (low _) (low _) (low _) (low _) (low _) ∙ ap f q
-  byte-bit (suc zero) i h e = let q : a + 1 ≡ i = omega arith in bit-1 (f a) (f (a + 1)) (f (a + 2)) (f (a + 3)) (f (a + 4)) (f (a + 4 + 1)) (f (a + 4 + 2)) (f (a + 4 + 3)) (low _) (low _) (low _) (low _) (low _) (low _) (low _) (low _) ∙ ap f q
-  byte-bit (suc (suc zero)) i h e = let q : a + 2 ≡ i = omega arith in bit-2 (f a) (f (a + 1)) (f (a + 2)) (f (a + 3)) (f (a + 4)) (f (a + 4 + 1)) (f (a + 4 + 2)) (f (a + 4 + 3)) (low _) (low _) (low _) (low _) (low _) (low _) (low _) (low _) ∙ ap f q
-  byte-bit (suc (suc (suc zero))) i h e = let q : a + 3 ≡ i = omega arith in bit-3 (f a) (f (a + 1)) (f (a + 2)) (f (a + 3)) (f (a + 4)) (f (a + 4 + 1)) (f (a + 4 + 2)) (f (a + 4 + 3)) (low _) (low _) (low _) (low _) (low _) (low _) (low _) (low _) ∙ ap f q
-  byte-bit (suc (suc (suc (suc zero)))) i h e = let q : a + 4 ≡ i = omega arith in bit-4 (f a) (f (a + 1)) (f (a + 2)) (f (a + 3)) (f (a + 4)) (f (a + 4 + 1)) (f (a + 4 + 2)) (f (a + 4 + 3)) (low _) (low _) (low _) (low _) (low _) (low _) (low _) (low _) ∙ ap f q
-  byte-bit (suc (suc (suc (suc (suc zero))))) i h e = let q : a + 4 + 1 ≡ i = omega arith in bit-5 (f a) (f (a + 1)) (f (a + 2)) (f (a + 3)) (f (a + 4)) (f (a + 4 + 1)) (f (a + 4 + 2)) (f (a + 4 + 3)) (low _) (low _) (low _) (low _) (low _) (low _) (low _) (low _) ∙ ap f q
-  byte-bit (suc (suc (suc (suc (suc (suc zero)))))) i h e = let q : a + 4 + 2 ≡ i = omega arith in bit-6 (f a) (f (a + 1)) (f (a + 2)) (f (a + 3)) (f (a + 4)) (f (a + 4 + 1)) (f (a + 4 + 2)) (f (a + 4 + 3)) (low _) (low _) (low _) (low _) (low _) (low _) (low _) (low _) ∙ ap f q
-  byte-bit (suc (suc (suc (suc (suc (suc (suc zero))))))) i h e = let q : a + 4 + 3 ≡ i = omega arith in bit-7 (f a) (f (a + 1)) (f (a + 2)) (f (a + 3)) (f (a + 4)) (f (a + 4 + 1)) (f (a + 4 + 2)) (f (a + 4 + 3)) (low _) (low _) (low _) (low _) (low _) (low _) (low _) (low _) ∙ ap f q
-  byte-bit (suc (suc (suc (suc (suc (suc (suc (suc k)))))))) i h e = absurd (omega arith)
+  byte-bit : Bits → (k i : ℕ) → k < 8 → i ≡ a + k → byteOf f a / 2 ^ (7 - k) % 2 ≡ f i
+  byte-bit b zero i h e =
+      let q : a ≡ i = omega arith in
+      let r : byteOf f a / 128 % 2 ≡ f a = omega arith in
+      r ∙ ap f q
+  byte-bit b (suc zero) i h e =
+      let q : a + 1 ≡ i = omega arith in
+      let r : byteOf f a / 64 % 2 ≡ f (a + 1) = omega arith in
+      r ∙ ap f q
+  byte-bit b (suc (suc zero)) i h e =
+      let q : a + 2 ≡ i = omega arith in
+      let r : byteOf f a / 32 % 2 ≡ f (a + 2) = omega arith in
+      r ∙ ap f q
+  byte-bit b (suc (suc (suc zero))) i h e =
+      let q : a + 3 ≡ i = omega arith in
+      let r : byteOf f a / 16 % 2 ≡ f (a + 3) = omega arith in
+      r ∙ ap f q
+  byte-bit b (suc (suc (suc (suc zero)))) i h e =
+      let q : a + 4 ≡ i = omega arith in
+      let r : byteOf f a / 8 % 2 ≡ f (a + 4) = omega arith in
+      r ∙ ap f q
+  byte-bit b (suc (suc (suc (suc (suc zero))))) i h e =
+      let q : a + 4 + 1 ≡ i = omega arith in
+      let r : byteOf f a / 4 % 2 ≡ f (a + 4 + 1) = omega arith in
+      r ∙ ap f q
+  byte-bit b (suc (suc (suc (suc (suc (suc zero)))))) i h e =
+      let q : a + 4 + 2 ≡ i = omega arith in
+      let r : byteOf f a / 2 % 2 ≡ f (a + 4 + 2) = omega arith in
+      r ∙ ap f q
+  byte-bit b (suc (suc (suc (suc (suc (suc (suc zero))))))) i h e =
+      let q : a + 4 + 3 ≡ i = omega arith in
+      let r : byteOf f a / 1 % 2 ≡ f (a + 4 + 3) = omega arith in
+      r ∙ ap f q
+  byte-bit b (suc (suc (suc (suc (suc (suc (suc (suc k)))))))) i h e = absurd (omega arith)
 
 pub packed-bit : (f : ℕ → ℕ) (n i : ℕ) → ((j : ℕ) → f j < 2) → i < 8 * n → bitAt (packed f n) i ≡ f i
 unfolding packed
 packed-bit f n i low h =
     let k : i / 8 < n = omega arith in
-    rw (span-of (λ j. byteOf f (8 * j)) n (i / 8) 0 k) (byte-bit f low (8 * (i / 8)) (i % 8) i (omega arith) (omega arith))
+    let bits : Bits f (8 * (i / 8)) = record { h₀ = low _; h₁ = low _; h₂ = low _; h₃ = low _; h₄ = low _; h₅ = low _; h₆ = low _; h₇ = low _ } in
+    rw (span-of (λ j. byteOf f (8 * j)) n (i / 8) 0 k) (byte-bit f (8 * (i / 8)) bits (i % 8) i (omega arith) (omega arith))
 
 -- the bits of byte i
 own-bit : (s : List ℕ) (i k j : ℕ) → k < 8 → j ≡ 8 * i + k → bitAt s j ≡ getD s i 0 / 2 ^ (7 - k) % 2

@@ -5,15 +5,15 @@
 --     no-pass       without a pass it says false, 0, and the output is zeros
 use mathlib.Core.Bool.{Bool, true, false}
 use mathlib.Core.List.{List, [], _∷_, _++_}
-use mathlib.Core.Path.{_≡_, refl, sym, ap, ap₂, _∙_, subst}
-use Prim.Native.Nat.{ℕ, zero, suc, _+_, _*_, _/_, _%_, _≤_, _<_}
+use mathlib.Core.Path.{_≡_, refl, sym, _∙_, subst}
+use Prim.Native.Nat.{ℕ, zero, suc, _+_, _/_, _%_, _≤_, _<_}
 use native.Mathlib.Omega.{arith}
-use borrow.Author.Tests.{eq-eqb, lt-ltb, ltb-true}
+use borrow.Author.Tests.{eq-eqb}
 use lib.Dec.{T, eqb, ltb, eqb→eq, ltb→lt}
 use lib.IntN.{ℤ, pos, negsuc, +ℤ-idr}
 use lib.ListN.{length, replicate, length-append, length-replicate}
-use Rattle.maths.specs.Tests.{pick, both, all, below}
-use Rattle.maths.specs.Sums.{sumL, Even}
+use Rattle.maths.specs.Tests.{pick, all, below}
+use Rattle.maths.specs.Sums.{sumL}
 use Rattle.maths.specs.Bits.{bitAt}
 use Rattle.maths.specs.Budget.{Turn, stop, go, End, end, run}
 use Rattle.maths.proofs.Tests.{both-left, both-right, below-at}

@@ -3,7 +3,7 @@ ghost use mathlib.Core.List.{[], flatMap};
 ghost use mathlib.Core.Path.{_≡_};
 ghost use Prim.Native.Nat.{_-_, _*_};
 ghost use lib.ListN.{length};
-ghost use Rattle.codes.specs.Codes.{Known, rowOf};
+ghost use Rattle.codes.specs.Codes.{rowOf};
 ghost use Rattle.codes.specs.Runs.{runEdges, readRuns};
 ghost use Rattle.report.specs.Report.{ending};
 ghost use Rattle.min_sum.specs.Confidence.{i8};
@@ -12,8 +12,8 @@ ghost use Rattle.min_sum.specs.Outcomes.{left, decodeAnswer, finishedAs,
 ghost use Rattle.min_sum.specs.Working.{layoutOf, ranOver, Fine, Sized, Ready, Lent};
 
 pub mod llrs;
-pub mod min_sum;
-pub mod soft;
+mod min_sum;
+mod soft;
 
 use codes::ACCEPTED;
 use codes::CODES;
@@ -89,7 +89,7 @@ fn decode_runs(
     maxiters: usize,
 ) -> Found
     requires { ⌜ Sized at (length (now working)) (length (now marks)) × (Ready at (readRuns (now runs)) (length (now llrs)) × (8 * length (now output) ≡ at .bits)) ⌝ }
-    ensures { λ r. ⌜ left (ending (r .success) (r .iters)) (now (output .exit)) (now (working .exit)) [] ≡ finishedAs i8 (ranOver (flatMap runEdges (readRuns (now (runs .entry)))) (at .checks) (at .bits - length (now (llrs .entry))) (now (llrs .entry)) maxiters) (length (now (working .entry))) 0 ⌝ }
+    ensures { λ r. ⌜ left (ending (r .success) (r .iters)) (now (output .exit)) (now (working .exit)) [] ≡ finishedAs i8 (ranOver i8 (flatMap runEdges (readRuns (now (runs .entry)))) (at .checks) (at .bits - length (now (llrs .entry))) (now (llrs .entry)) maxiters) (length (now (working .entry))) 0 ⌝ }
 {
     let sums = 2 * at.edges;
     let minima = sums + at.bits;

@@ -86,7 +86,7 @@ fn refusal(code: usize, read: usize, reads: usize, written: usize, writes: usize
 
 // The confidence -1 for each bit that is 1, and 1 for each that is 0.
 pub fn hard_to_llrs_i8(code: usize, input: &[u8], llrs: &mut [i8]) -> u8
-    ensures { λ r. ⌜ written r (now (llrs .exit)) ≡ toLlrsOutcome code (now (input .entry)) (now (llrs .entry)) ⌝ }
+    ensures { λ r. ⌜ written r (now (llrs .exit)) ≡ toLlrsOutcome (negsuc 0) (pos 1) code (now (input .entry)) (now (llrs .entry)) ⌝ }
 {
     let row = params(code).row;
     let answer = refusal(code, input.len(), row.n / 8, llrs.len(), row.n);
@@ -99,7 +99,7 @@ pub fn hard_to_llrs_i8(code: usize, input: &[u8], llrs: &mut [i8]) -> u8
 
 // The hard bit of each confidence.
 pub fn llrs_to_hard_i8(code: usize, llrs: &[i8], output: &mut [u8]) -> u8
-    ensures { λ r. ⌜ written r (now (output .exit)) ≡ toHardOutcome code (now (llrs .entry)) (now (output .entry)) ⌝ }
+    ensures { λ r. ⌜ written r (now (output .exit)) ≡ toHardOutcome i8 code (now (llrs .entry)) (now (output .entry)) ⌝ }
 {
     let row = params(code).row;
     let answer = refusal(code, llrs.len(), row.n, output.len(), row.n / 8);

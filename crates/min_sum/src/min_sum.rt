@@ -30,7 +30,7 @@ pub struct Layout {
     pub checks: usize,
 }
 
-pub(crate) fn weight(which: bool, x: u8) -> u8
+fn weight(which: bool, x: u8) -> u8
     ensures { λ r. ⌜ r ≡ pick which x 0 ⌝ }
 {
     if which { x } else { 0 }
@@ -69,7 +69,7 @@ fn add_message(w: &mut [i8], marks: &[u8], at: Layout, e: usize, check: Check, b
 // One edge: its new v, and the minima, the sign and the parity of its check.
 fn take_message(w: &mut [i8], marks: &mut [u8], at: Layout, e: usize, check: Check, bit: Bit)
     requires { ⌜ Sized at (length (now w)) (length (now marks)) × Inside at e (check .0) (bit .0) 1 ⌝ }
-    ensures { λ _. ⌜ heldChecked at (now (w .exit)) (now (marks .exit)) ≡ takeChecked (link e (check .0) (bit .0)) (heldChecked at (now (w .entry)) (now (marks .entry))) ⌝ }
+    ensures { λ _. ⌜ heldChecked at (now (w .exit)) (now (marks .exit)) ≡ takeChecked i8 (link e (check .0) (bit .0)) (heldChecked at (now (w .entry)) (now (marks .entry))) ⌝ }
 {
     let a = check.0;
     let old = at.edges + e;
@@ -107,7 +107,7 @@ fn take_run(
     size: usize,
 )
     requires { ⌜ Sized at (length (now w)) (length (now marks)) × Inside at e (check .0) (bit .0) size ⌝ }
-    ensures { λ _. ⌜ heldChecked at (now (w .exit)) (now (marks .exit)) ≡ fold takeChecked (runLinks e (check .0) (bit .0) size) (heldChecked at (now (w .entry)) (now (marks .entry))) ⌝ }
+    ensures { λ _. ⌜ heldChecked at (now (w .exit)) (now (marks .exit)) ≡ fold (takeChecked i8) (runLinks e (check .0) (bit .0) size) (heldChecked at (now (w .entry)) (now (marks .entry))) ⌝ }
 {
     for i in 0..size {
         take_message(w, marks, at, e + i, Check(check.0 + i), Bit(bit.0 + i));
@@ -138,7 +138,7 @@ fn add_runs(w: &mut [i8], marks: &[u8], at: Layout, runs: &[u16])
 
 fn take_runs(w: &mut [i8], marks: &mut [u8], at: Layout, runs: &[u16])
     requires { ⌜ Sized at (length (now w)) (length (now marks)) × Rest at 0 (readRuns (now runs)) ⌝ }
-    ensures { λ _. ⌜ heldChecked at (now (w .exit)) (now (marks .exit)) ≡ fold takeChecked (numbered 0 (flatMap runEdges (readRuns (now (runs .entry))))) (heldChecked at (now (w .entry)) (now (marks .entry))) ⌝ }
+    ensures { λ _. ⌜ heldChecked at (now (w .exit)) (now (marks .exit)) ≡ fold (takeChecked i8) (numbered 0 (flatMap runEdges (readRuns (now (runs .entry))))) (heldChecked at (now (w .entry)) (now (marks .entry))) ⌝ }
 {
     let n = runs.len() / 3;
     let mut e: usize = 0;

@@ -3,6 +3,7 @@ use mathlib.Core.Path.{_∙_}
 use denote.Ref.{now}
 use lib.ListN.{length}
 use Rattle.codes.specs.Runs.{runEdges, readRuns}
+use Rattle.min_sum.specs.Confidence.{i8}
 use Rattle.min_sum.proofs.Ran.{edges-long, decoded-by}
 use borrow.Author.Needs.{needs}
 use Rattle.min_sum.proofs.decode_runs.Statement.{statement}
@@ -33,7 +34,8 @@ decode-runs-spec =
     let k = z .before .before .before .before in
     let s = k .before .before .before .before .before .before .before in
     let a = s .args in
-    decoded-by (a .at) (flatMap runEdges (readRuns (now (a .runs)))) (now (a .llrs)) (now (a .working)) (now (a .marks)) (a .maxiters) (s .pre .0) (edges-long (s .pre .1 .0)) (s .pre .1 .0 .few)
+    decoded-by i8 (a .at) (flatMap runEdges (readRuns (now (a .runs)))) (now (a .llrs)) (now (a .working)) (now (a .marks)) (a .maxiters) (s .pre .0)
+    (edges-long (s .pre .1 .0)) (s .pre .1 .0 .few)
     (length (now (a .output))) (r .run-passes .last .0) (r .run-passes .last .1 .0)
     (k .clear .ensures) (z .fill .ensures) (r .run-passes .ensures) (r .run-passes .kept .0 ∙ z .fill .kept .0)
     (o .pack .ensures) (s .pre .1 .1) (f .fill2 .ensures)))

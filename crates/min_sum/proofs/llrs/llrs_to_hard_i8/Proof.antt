@@ -1,10 +1,8 @@
-use mathlib.Core.Path.{_≡_, sym, ap, _∙_}
-use Prim.Native.Nat.{ℕ, _/_, _*_}
+use mathlib.Core.Path.{sym, ap, _∙_}
+use Prim.Native.Nat.{ℕ, _/_}
 use native.Mathlib.Omega.{arith}
 use denote.Ref.{now}
-use lib.ListN.{length}
-use Rattle.codes.specs.Codes.{rowOf}
-use Rattle.min_sum.specs.Outcomes.{convertAnswer, toHardOutcome}
+use Rattle.min_sum.specs.Outcomes.{toHardOutcome}
 use Rattle.min_sum.proofs.Rows.{fine}
 use Rattle.min_sum.proofs.Answers.{convert-sized, written-not, written-new}
 use Rattle.min_sum.specs.Confidence.{i8}

@@ -1,4 +1,4 @@
-use mathlib.Core.Path.{_≡_, refl, _∙_}
+use mathlib.Core.Path.{_≡_, refl}
 use mathlib.Core.List.{List, _++_}
 use Prim.Native.Nat.{ℕ, _*_, _-_, _≤_}
 use native.Mathlib.Omega.{arith}
@@ -10,7 +10,6 @@ use lib.IntN.{ℤ}
 use Rattle.min_sum.specs.Confidence.{i8}
 use Rattle.min_sum.specs.MinSum.{hardBits}
 use Rattle.min_sum.specs.Hard.{byteOf, packed}
-use borrow.Author.Needs.{needs}
 use Rattle.min_sum.proofs.llrs.pack.Statement.{statement}
 use Rattle.min_sum.proofs.llrs.pack.Tie as tie
 

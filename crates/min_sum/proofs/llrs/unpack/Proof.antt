@@ -1,6 +1,6 @@
 use mathlib.Core.Path.{_≡_, refl, _∙_}
 use mathlib.Core.List.{List, _++_}
-use Prim.Native.Nat.{ℕ, _*_, _/_, _-_, _<_, _≤_}
+use Prim.Native.Nat.{ℕ, _*_, _-_, _≤_}
 use native.Mathlib.Omega.{arith}
 use denote.Ref.{now}
 use lib.ListN.{length, drop, length-set}
@@ -13,7 +13,6 @@ use Rattle.maths.specs.Tests.{pick}
 use Rattle.maths.specs.Bits.{bitAt}
 use Rattle.min_sum.specs.Hard.{toLlrs}
 use Rattle.min_sum.proofs.Signed.{back}
-use borrow.Author.Needs.{needs}
 use Rattle.min_sum.proofs.llrs.unpack.Statement.{statement}
 use Rattle.min_sum.proofs.llrs.unpack.Tie as tie
 

@@ -4,6 +4,7 @@ use denote.Ref.{now}
 use lib.IntN.{pos}
 use lib.ListN.{getD, length-set}
 use mir.Syntax.{w8}
+use Rattle.min_sum.specs.Confidence.{i8}
 use Rattle.min_sum.proofs.Signed.{back}
 use Rattle.min_sum.proofs.Held.{added}
 use borrow.Author.Needs.{needs}
@@ -44,6 +45,6 @@ add-message-spec =
     let f = back w8 (getD w (2 * l .edges + l .bits + a .check .0) (pos 0)) (g .before .before .new-u-arg2 .given) in
     let h = back w8 (getD w (2 * l .edges + l .bits + a .check .0 + l .checks) (pos 0)) (g .before .new-u-arg3 .given) in
     let m = back w8 (getD w (2 * l .edges + a .bit .0) (pos 0)) (g .before .before .before .before .marginal .given) in
-    added l w (now (a .marks)) (a .e) (a .check .0) (a .bit .0) (s .pre .0) (s .pre .1)
+    added i8 l w (now (a .marks)) (a .e) (a .check .0) (a .bit .0) (s .pre .0) (s .pre .1)
     (rw (r, n .new-u .ensures, v, f, h, g .negative-at .ensures))
     (rw (x, c .saturating-add .ensures, m))))

@@ -1,6 +1,6 @@
 use mathlib.Core.Path.{_≡_, refl, _∙_}
 use mathlib.Core.List.{flatMap}
-use Prim.Native.Nat.{_+_, _*_, _-_, _≤_}
+use Prim.Native.Nat.{_*_, _-_, _≤_}
 use native.Mathlib.Omega.{arith}
 use denote.Ref.{now}
 use lib.ListN.{length, drop}
@@ -8,7 +8,7 @@ use Rattle.maths.specs.Lists.{fold}
 use Rattle.codes.specs.Runs.{runEdges, readRuns}
 use Rattle.min_sum.specs.Confidence.{i8}
 use Rattle.min_sum.specs.MinSum.{numbered, addMessage}
-use Rattle.min_sum.specs.Working.{held, Inside, Rest}
+use Rattle.min_sum.specs.Working.{held, Rest}
 use Rattle.min_sum.proofs.Links.{turn-inside, turn-rest, turn-fold, end-fold}
 use borrow.Author.Needs.{needs}
 use Rattle.min_sum.proofs.min_sum.add_runs.Statement.{statement}
@@ -55,7 +55,8 @@ add-runs-spec =
     let t = z .before .before .before .before .before .before .before in
     let a = t .before .before .before .args in
     let k = z .before .before .before .before .before .before .loop-test .taken in
-    omega (arith, turn-inside (a .at) (now (a .runs)) (t .loop .i) (t .loop .e) (t .loop .inv .2) (omega (arith, k)) (z .before .before .before .before .wide .ensures) (z .before .before .wide2 .ensures) (z .wide3 .ensures) .numbers))
+    omega
+    (arith, turn-inside (a .at) (now (a .runs)) (t .loop .i) (t .loop .e) (t .loop .inv .2) (omega (arith, k)) (z .before .before .before .before .wide .ensures) (z .before .before .wide2 .ensures) (z .wide3 .ensures) .numbers))
     (λ c. search needs)
     (λ c. search needs)
     (λ c.
@@ -66,8 +67,10 @@ add-runs-spec =
     let k = z .before .before .before .before .before .before .loop-test .taken in (
       omega (arith, k),
       m .add-run .kept .0 ∙ t .loop .inv .1,
-      turn-rest (a .at) (now (a .runs)) (t .loop .i) (t .loop .e) (t .loop .inv .2) (omega (arith, k)) (z .before .before .before .before .wide .ensures) (z .before .before .wide2 .ensures) (z .wide3 .ensures),
-      turn-fold (a .at) (now (a .runs)) (t .loop .i) (t .loop .e) (t .loop .inv .2) (omega (arith, k)) (z .before .before .before .before .wide .ensures) (z .before .before .wide2 .ensures) (z .wide3 .ensures) (addMessage i8) _ (t .loop .inv .3) (m .add-run .ensures),
+      turn-rest (a .at) (now (a .runs)) (t .loop .i) (t .loop .e) (t .loop .inv .2) (omega (arith, k)) (z .before .before .before .before .wide .ensures)
+          (z .before .before .wide2 .ensures) (z .wide3 .ensures),
+      turn-fold (a .at) (now (a .runs)) (t .loop .i) (t .loop .e) (t .loop .inv .2) (omega (arith, k)) (z .before .before .before .before .wide .ensures)
+          (z .before .before .wide2 .ensures) (z .wide3 .ensures) (addMessage i8) _ (t .loop .inv .3) (m .add-run .ensures),
     ))
     (λ c. c .before .loop .inv .1)
     (λ c.

@@ -10,14 +10,14 @@ use Rattle.codes.specs.Runs.{runEdges, readRuns}
 use Rattle.min_sum.specs.Confidence.{i8}
 use Rattle.min_sum.specs.MinSum.{turn}
 use Rattle.min_sum.specs.Working.{held}
-use borrow.Author.Needs.{needs}
 use Rattle.min_sum.proofs.min_sum.run_passes.Statement.{statement}
 use Rattle.min_sum.proofs.min_sum.run_passes.Tie as tie
 
 abbrev Inv-loop : tie.InvT-loop
 Inv-loop w₀ marks₀ llrs at runs maxiters pass₀ w marks pass =
     (pass ≤ maxiters) × (length w ≡ length w₀) × (length marks ≡ length marks₀)
-    × (run (turn i8 (flatMap runEdges (readRuns runs)) (at .checks) (at .bits - length llrs) llrs) (maxiters - pass) pass (held at w marks) ≡ run (turn i8 (flatMap runEdges (readRuns runs)) (at .checks) (at .bits - length llrs) llrs) maxiters 0 (held at w₀ marks₀))
+    ×
+    (run (turn i8 (flatMap runEdges (readRuns runs)) (at .checks) (at .bits - length llrs) llrs) (maxiters - pass) pass (held at w marks) ≡ run (turn i8 (flatMap runEdges (readRuns runs)) (at .checks) (at .bits - length llrs) llrs) maxiters 0 (held at w₀ marks₀))
 
 abbrev μ-loop : tie.MeasureT-loop
 μ-loop w₀ marks₀ llrs at runs maxiters pass₀ w marks pass = maxiters - pass
@@ -47,7 +47,8 @@ run-passes-spec =
     let t = p .before .before .before .before in
     let a = t .before .before .before .args in
     let i = t .loop .inv in
-    run-stop (turn i8 (flatMap runEdges (readRuns (now (a .runs)))) (a .at .checks) (a .at .bits - length (now (a .llrs))) (now (a .llrs))) (a .maxiters) (t .loop .pass) _ (i .3) (p .before .before .before .loop-test .taken) (sym (rw (c .if1 .taken) at (p .one-pass .ensures))))
+    run-stop (turn i8 (flatMap runEdges (readRuns (now (a .runs)))) (a .at .checks) (a .at .bits - length (now (a .llrs))) (now (a .llrs))) (a .maxiters) (t .loop .pass)
+    _ (i .3) (p .before .before .before .loop-test .taken) (sym (rw (c .if1 .taken) at (p .one-pass .ensures))))
     (λ c. omega arith)
     (λ c. omega arith)
     (λ c.
@@ -58,11 +59,13 @@ run-passes-spec =
       omega (arith, p .before .before .before .loop-test .taken),
       p .one-pass .kept .0 ∙ i .1,
       p .one-pass .kept .1 .0 ∙ i .2,
-      run-more (turn i8 (flatMap runEdges (readRuns (now (a .runs)))) (a .at .checks) (a .at .bits - length (now (a .llrs))) (now (a .llrs))) (a .maxiters) (t .loop .pass) _ (i .3) (p .before .before .before .loop-test .taken) (sym (rw (c .if1 .left) at (p .one-pass .ensures))),
+      run-more (turn i8 (flatMap runEdges (readRuns (now (a .runs)))) (a .at .checks) (a .at .bits - length (now (a .llrs))) (now (a .llrs))) (a .maxiters)
+          (t .loop .pass) _ (i .3) (p .before .before .before .loop-test .taken) (sym (rw (c .if1 .left) at (p .one-pass .ensures))),
     ))
     (λ c. c .before .loop .inv .1)
     (λ c. c .before .loop .inv .2)
     (λ c.
     let t = c .before in
     let a = t .before .before .before .args in
-    run-out (turn i8 (flatMap runEdges (readRuns (now (a .runs)))) (a .at .checks) (a .at .bits - length (now (a .llrs))) (now (a .llrs))) (a .maxiters) (t .loop .pass) _ (t .loop .inv .3) (t .loop .inv .0) (c .loop-test .left)))
+    run-out (turn i8 (flatMap runEdges (readRuns (now (a .runs)))) (a .at .checks) (a .at .bits - length (now (a .llrs))) (now (a .llrs))) (a .maxiters) (t .loop .pass) _
+    (t .loop .inv .3) (t .loop .inv .0) (c .loop-test .left)))

@@ -4,6 +4,7 @@ use denote.Ref.{now}
 use lib.IntN.{pos}
 use lib.ListN.{getD, length-set}
 use mir.Syntax.{w8}
+use Rattle.min_sum.specs.Confidence.{i8}
 use Rattle.min_sum.proofs.Signed.{back}
 use Rattle.min_sum.proofs.Held.{taken}
 use borrow.Author.Needs.{needs}
@@ -61,7 +62,7 @@ take-message-spec =
     let bv = back w8 (getD w (l .edges + a .e) (pos 0)) (r₂ .new-v-arg2 .given) in
     let bn = back w8 (n .new-v .result) (n .new-v .ok) in
     let ba = back w8 (m .magnitude .result) (m .magnitude .ok) in
-    taken l w (now (a .marks)) (a .e) (a .check .0) (a .bit .0) (s .pre .0) (s .pre .1)
+    taken i8 l w (now (a .marks)) (a .e) (a .check .0) (a .bit .0) (s .pre .0) (s .pre .1)
     bm
     (rw (bn, n .new-v .ensures, bu, bv))
     (rw (back w8 (f .new-first .result) (f .new-first .ok), f .new-first .ensures, ba, bf, m .magnitude .ensures))

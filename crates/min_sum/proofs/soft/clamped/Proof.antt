@@ -2,7 +2,6 @@ use mathlib.Core.Path.{_∙_}
 use native.Mathlib.Omega.{arith}
 use mir.Facts.{toZ-ofZ}
 use Rattle.min_sum.proofs.Signed.{clamp-over, clamp-under, clamp-within}
-use borrow.Author.Needs.{needs}
 use Rattle.min_sum.proofs.soft.clamped.Statement.{statement}
 use Rattle.min_sum.proofs.soft.clamped.Tie as tie
 

@@ -1,5 +1,4 @@
 use mir.Facts.{toZ-ofZ}
-use borrow.Author.Needs.{needs}
 use Rattle.min_sum.proofs.soft.either.Statement.{statement}
 use Rattle.min_sum.proofs.soft.either.Tie as tie
 

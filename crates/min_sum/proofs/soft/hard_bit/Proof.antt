@@ -1,6 +1,5 @@
 use mir.Facts.{toZ-ofZ}
 use Rattle.min_sum.proofs.Signed.{sign-of}
-use borrow.Author.Needs.{needs}
 use Rattle.min_sum.proofs.soft.hard_bit.Statement.{statement}
 use Rattle.min_sum.proofs.soft.hard_bit.Tie as tie
 

@@ -1,8 +1,6 @@
-use mathlib.Core.Path.{_≡_}
 use lib.Signed.{ltZ}
 use mir.Facts.{toZ-ofZ}
 use Rattle.min_sum.specs.Soft.{lower}
-use borrow.Author.Needs.{needs}
 use Rattle.min_sum.proofs.soft.less.Statement.{statement}
 use Rattle.min_sum.proofs.soft.less.Tie as tie
 

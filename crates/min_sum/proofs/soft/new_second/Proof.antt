@@ -13,4 +13,13 @@ new-second-spec =
     (λ c κs. search needs)
     (λ c κs. search needs)
     (λ c κs. search needs)
-    (λ c. cc (back w8 (c .either2 .result) (c .either2 .ok), back w8 (c .before .either .result) (c .before .either .ok), toZ-ofZ (c .before .before .before .before .fits .m), toZ-ofZ (c .before .before .before .before .fits .first), toZ-ofZ (c .before .before .before .before .fits .second))))
+    (λ c.
+    let e = c .before in
+    let f = e .before .before .before .fits in
+    cc (
+      back w8 (c .either2 .result) (c .either2 .ok),
+      back w8 (e .either .result) (e .either .ok),
+      toZ-ofZ (f .m),
+      toZ-ofZ (f .first),
+      toZ-ofZ (f .second),
+    )))

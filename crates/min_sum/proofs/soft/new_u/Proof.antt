@@ -15,4 +15,17 @@ new-u-spec =
     (λ c κs. search needs)
     (λ c κs. search needs)
     (λ c κs. search needs)
-    (λ c. cc (back w8 (c .negate-if2 .result) (c .negate-if2 .ok), back w8 (c .before .negate-if .result) (c .before .negate-if .ok), back w8 (c .before .before .either .result) (c .before .before .either .ok), back w8 (c .before .before .before .before .magnitude .result) (c .before .before .before .before .magnitude .ok), toZ-ofZ (c .before .before .before .before .before .before .fits .v), toZ-ofZ (c .before .before .before .before .before .before .fits .first), toZ-ofZ (c .before .before .before .before .before .before .fits .second))))
+    (λ c.
+    let n = c .before in
+    let e = n .before in
+    let m = e .before .before in
+    let f = m .before .before .fits in
+    cc (
+      back w8 (c .negate-if2 .result) (c .negate-if2 .ok),
+      back w8 (n .negate-if .result) (n .negate-if .ok),
+      back w8 (e .either .result) (e .either .ok),
+      back w8 (m .magnitude .result) (m .magnitude .ok),
+      toZ-ofZ (f .v),
+      toZ-ofZ (f .first),
+      toZ-ofZ (f .second),
+    )))

@@ -15,4 +15,15 @@ new-v-spec =
     (λ c κs. search needs)
     (λ c κs. search needs)
     (λ c κs. search needs)
-    (λ c. cc (back w8 (c .either2 .result) (c .either2 .ok), back w8 (c .before .either .result) (c .before .either .ok), back w8 (c .before .before .before .before .before .saturating-sub .result) (c .before .before .before .before .before .saturating-sub .ok), toZ-ofZ (c .before .before .before .before .before .before .fits .marginal), toZ-ofZ (c .before .before .before .before .before .before .fits .u), toZ-ofZ (c .before .before .before .before .before .before .fits .v))))
+    (λ c.
+    let e = c .before in
+    let s = e .before .before .before .before in
+    let f = s .before .fits in
+    cc (
+      back w8 (c .either2 .result) (c .either2 .ok),
+      back w8 (e .either .result) (e .either .ok),
+      back w8 (s .saturating-sub .result) (s .saturating-sub .ok),
+      toZ-ofZ (f .marginal),
+      toZ-ofZ (f .u),
+      toZ-ofZ (f .v),
+    )))

@@ -1,6 +1,5 @@
 use mir.Syntax.{w8}
 use Rattle.min_sum.proofs.Signed.{eq-of}
-use borrow.Author.Needs.{needs}
 use Rattle.min_sum.proofs.soft.same.Statement.{statement}
 use Rattle.min_sum.proofs.soft.same.Tie as tie
 

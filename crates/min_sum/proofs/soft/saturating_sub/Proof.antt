@@ -1,10 +1,9 @@
 use mathlib.Core.Path.{ap, _∙_}
-use lib.IntN.{_-ℤ_}
 use mir.Syntax.{w8, w16}
 use mir.Facts.{toZ-ofZ}
-use Rattle.min_sum.specs.Soft.{clamp, satSub}
-use Rattle.min_sum.proofs.Signed.{widens, widened, difference-fits}
 use borrow.Author.Needs.{needs}
+use Rattle.min_sum.specs.Soft.{clamp, satSub}
+use Rattle.min_sum.proofs.Signed.{widens, difference-fits, difference-is}
 use Rattle.min_sum.proofs.soft.saturating_sub.Statement.{statement}
 use Rattle.min_sum.proofs.soft.saturating_sub.Tie as tie
 
@@ -15,9 +14,8 @@ saturating-sub-spec =
     (tie.spec
     (λ c. widens w8 w16 tt (c .fits .a))
     (λ c. widens w8 w16 tt (c .fits .b))
-    (λ c. difference-fits w8 w16 tt (widened w8 w16 tt (c .fits .a)) (widened w8 w16 tt (c .fits .b)) (c .fits .a) (c .fits .b))
+    (λ c. difference-fits w8 w16 tt tt (c .fits .a) (c .fits .b))
     (λ c κs. search needs)
     (λ c.
-    let s = c .before in
-    toZ-ofZ (record { sfits = c .clamped .ok }) ∙ c .clamped .ensures
-    ∙ ap (clamp 127) (toZ-ofZ (difference-fits w8 w16 tt (widened w8 w16 tt (s .fits .a)) (widened w8 w16 tt (s .fits .b)) (s .fits .a) (s .fits .b)) ∙ (λ i. widened w8 w16 tt (s .fits .a) i -ℤ widened w8 w16 tt (s .fits .b) i))))
+    let f = c .before .fits in
+    toZ-ofZ (record { sfits = c .clamped .ok }) ∙ c .clamped .ensures ∙ ap (clamp 127) (difference-is w8 w16 tt tt (f .a) (f .b))))
