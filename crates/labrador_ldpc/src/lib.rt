@@ -1,6 +1,7 @@
 // The library for C and Rust programs to link: include/labrador_ldpc.h says what each function does.
 // A slice is a pointer and then a length there; each function's promise is that of the library's own function.
 ghost use mathlib.Core.Path.{_≡_};
+ghost use lib.IntN.{pos, negsuc};
 ghost use lib.ListN.{length};
 ghost use Rattle.maths.specs.Tests.{pick};
 ghost use Rattle.encoder.specs.Outcomes.{encoded, encodeOutcome, copyEncodeOutcome};
@@ -60,14 +61,14 @@ pub extern "C" fn ldpc_copy_encode(code: usize, data: &[u8], codeword: &mut [u8]
 
 #[no_mangle]
 pub extern "C" fn ldpc_hard_to_llrs_i8(code: usize, input: &[u8], llrs: &mut [i8]) -> u8
-    ensures { λ r. ⌜ written r (now (llrs .exit)) ≡ toLlrsOutcome code (now (input .entry)) (now (llrs .entry)) ⌝ }
+    ensures { λ r. ⌜ written r (now (llrs .exit)) ≡ toLlrsOutcome (negsuc 0) (pos 1) code (now (input .entry)) (now (llrs .entry)) ⌝ }
 {
     min_sum::llrs::hard_to_llrs_i8(code, input, llrs)
 }
 
 #[no_mangle]
 pub extern "C" fn ldpc_llrs_to_hard_i8(code: usize, llrs: &[i8], output: &mut [u8]) -> u8
-    ensures { λ r. ⌜ written r (now (output .exit)) ≡ toHardOutcome code (now (llrs .entry)) (now (output .entry)) ⌝ }
+    ensures { λ r. ⌜ written r (now (output .exit)) ≡ toHardOutcome i8 code (now (llrs .entry)) (now (output .entry)) ⌝ }
 {
     min_sum::llrs::llrs_to_hard_i8(code, llrs, output)
 }

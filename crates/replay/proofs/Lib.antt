@@ -1,0 +1,2 @@
+pub mod Confidence
+pub mod Parts

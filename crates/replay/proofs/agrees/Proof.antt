@@ -1,0 +1,23 @@
+use Prim.Native.Nat.{ℕ}
+use Rattle.replay.proofs.Parts.{lent}
+use borrow.Author.Needs.{needs}
+use Rattle.replay.proofs.agrees.Statement.{statement}
+use Rattle.replay.proofs.agrees.Tie as tie
+
+pub agrees-spec : {M : Type 1} → statement M
+agrees-spec =
+    tie.close
+    (tie.spec
+    (λ c κs. search needs)
+    (λ c κs. search needs)
+    (λ c κs. search needs)
+    (λ c κs. search needs)
+    (λ c κs. search needs)
+    (λ c. search needs)
+    (λ c. lent {A = ℕ} 5120 0 (c .before .before .before .least .ensures))
+    (λ c. search needs)
+    (λ c. lent {A = ℕ} 5120 0 (c .before .before .least2 .ensures))
+    (λ c. search needs)
+    (λ c. lent {A = ℕ} 5120 0 (c .before .before .before .least2 .ensures))
+    (λ c κs. search needs)
+    (λ c. search needs))

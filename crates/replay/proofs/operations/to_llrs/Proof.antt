@@ -1,0 +1,15 @@
+use lib.IntN.{ℤ, pos}
+use Rattle.replay.proofs.Parts.{lent}
+use borrow.Author.Needs.{needs}
+use Rattle.replay.proofs.operations.to_llrs.Statement.{statement}
+use Rattle.replay.proofs.operations.to_llrs.Tie as tie
+
+pub to-llrs-spec : {M : Type 1} → statement M
+to-llrs-spec =
+    tie.close
+    (tie.spec
+    (λ c κs. search needs)
+    (λ c. search needs)
+    (λ c. lent {A = ℤ} 5120 (pos 0) (c .before .least .ensures))
+    (λ c κs. search needs)
+    (λ c. search needs))

@@ -1,0 +1,16 @@
+use native.Mathlib.Omega.{arith}
+use Rattle.replay.proofs.Confidence.{lowers, narrows}
+use borrow.Author.Needs.{needs}
+use Rattle.replay.proofs.soft.soft_of.Statement.{statement}
+use Rattle.replay.proofs.soft.soft_of.Tie as tie
+
+pub soft-of-spec : {M : Type 1} → statement M
+soft-of-spec =
+    tie.close
+    (tie.spec
+    (λ c. search needs)
+    (λ c. search needs)
+    (λ c. lowers (c .before .args .x) (search needs))
+    (λ c. narrows (c .before .args .x) (search needs) (search needs))
+    (λ c. search needs)
+    (λ c. search needs))

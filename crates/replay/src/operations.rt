@@ -1,0 +1,114 @@
+// Each operation, run as a case says: whether the library answers what the Rust did and writes the same bytes.
+use crate::cases::Case;
+use crate::cases::least;
+use crate::soft::same_soft;
+use crate::soft::soften;
+use codes::ACCEPTED;
+use codes::CodeParams;
+use report::Report;
+
+// Both encoders: the data copied in, then the frame encoded once more in place.
+pub fn encoders(c: Case, data: &[u8], want: &[u8], word: &mut [u8]) -> bool {
+    if encoder::copy_encode(c.code, data, word) != ACCEPTED {
+        return false;
+    }
+    if !check::same(word, want) {
+        return false;
+    }
+    if encoder::encode(c.code, word) != ACCEPTED {
+        return false;
+    }
+    check::same(word, want)
+}
+
+fn reported(r: Report, c: Case) -> bool {
+    if r.answer != ACCEPTED {
+        return false;
+    }
+    if r.success != c.success {
+        return false;
+    }
+    r.iters == c.iters
+}
+
+fn bit_flipping_on(
+    c: Case,
+    read: &[u8],
+    want: &[u8],
+    output: &mut [u8],
+    working: &mut [u8],
+) -> bool {
+    let r = bit_flip::decode_bf(c.code, read, output, working, c.most);
+    if !reported(r, c) {
+        return false;
+    }
+    check::same(output, want)
+}
+
+pub fn bit_flipping(c: Case, row: CodeParams, read: &[u8], want: &[u8], output: &mut [u8]) -> bool {
+    let mut working = [0u8; 5632];
+    let w = least(row.decode_bf_working_len, 5632);
+    bit_flipping_on(c, read, want, output, &mut working[..w])
+}
+
+fn min_sum_on(
+    c: Case,
+    read: &[u8],
+    want: &[u8],
+    output: &mut [u8],
+    llrs: &mut [i8],
+    working: &mut [i8],
+    signs: &mut [u8],
+) -> bool {
+    soften(read, llrs);
+    let r = min_sum::decode_ms_i8(c.code, llrs, output, working, signs, c.most);
+    if !reported(r, c) {
+        return false;
+    }
+    check::same(output, want)
+}
+
+pub fn min_sum_i8(c: Case, row: CodeParams, read: &[u8], want: &[u8], output: &mut [u8]) -> bool {
+    let mut llrs = [0i8; 5120];
+    let mut working = [0i8; 48640];
+    let mut signs = [0u8; 192];
+    let n = least(read.len(), 5120);
+    let w = least(row.decode_ms_working_len, 48640);
+    let s = least(row.decode_ms_working_u8_len, 192);
+    min_sum_on(
+        c,
+        read,
+        want,
+        output,
+        &mut llrs[..n],
+        &mut working[..w],
+        &mut signs[..s],
+    )
+}
+
+fn to_llrs_on(c: Case, read: &[u8], want: &[u8], llrs: &mut [i8]) -> bool {
+    if min_sum::llrs::hard_to_llrs_i8(c.code, read, llrs) != ACCEPTED {
+        return false;
+    }
+    same_soft(llrs, want)
+}
+
+pub fn to_llrs(c: Case, read: &[u8], want: &[u8]) -> bool {
+    let mut llrs = [0i8; 5120];
+    let n = least(want.len(), 5120);
+    to_llrs_on(c, read, want, &mut llrs[..n])
+}
+
+fn to_hard_on(c: Case, read: &[u8], want: &[u8], output: &mut [u8], llrs: &mut [i8]) -> bool {
+    soften(read, llrs);
+    if min_sum::llrs::llrs_to_hard_i8(c.code, llrs, output) != ACCEPTED {
+        return false;
+    }
+    check::same(output, want)
+}
+
+pub fn to_hard(c: Case, read: &[u8], want: &[u8], output: &mut [u8]) -> bool {
+    let mut llrs = [0i8; 5120];
+    let n = least(read.len(), 5120);
+    to_hard_on(c, read, want, output, &mut llrs[..n])
+}
