@@ -81,6 +81,10 @@ pub llrs-bits-i8 : (input : List ℕ) (i : ℕ) → hardBits i8 (toLlrs (negsuc 
 unfolding below0
 llrs-bits-i8 = llrs-bits i8 (negsuc 0) (pos 1) refl refl refl
 
+pub llrs-hard-i8 : (input : List ℕ) → ((i : ℕ) → getD input i 0 < 256) → toHard i8 (toLlrs (negsuc 0) (pos 1) input) ≡ input
+unfolding below0
+llrs-hard-i8 = llrs-hard i8 (negsuc 0) (pos 1) refl refl refl
+
 pub there-and-back-i8 : (code : ℕ) (input output : List ℕ) (llrs : List ℤ) → Known code → length input ≡ rowOf code .n / 8 → length output ≡ rowOf code .n / 8
     → length llrs ≡ rowOf code .n → ((i : ℕ) → getD input i 0 < 256)
     → toHardOutcome i8 code (toLlrsOutcome (negsuc 0) (pos 1) code input llrs .buffer) output .buffer ≡ input

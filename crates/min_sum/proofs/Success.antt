@@ -97,7 +97,7 @@ module _ {C : Type 0} (o : Confidence C) (code : ℕ) (llrs : List C) (maxiters 
     all-bits : length llrs + rowOf code .«punctured_bits» ≡ bitsIn code
     all-bits = rw l
 
-    sized-state : length (decoded o code llrs maxiters .state .marginals) ≡ bitsIn code
+    pub sized-state : length (decoded o code llrs maxiters .state .marginals) ≡ bitsIn code
     sized-state =
         run-kept turnOf (λ s. length (s .marginals) ≡ bitsIn code) (λ s t e q. stays s t (left-stop (metOf (passOf s)) (sym (turn-is s) ∙ e)))
         (λ s t e q. stays s t (left-go (metOf (passOf s)) (sym (turn-is s) ∙ e))) maxiters 0 startOf

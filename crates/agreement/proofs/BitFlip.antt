@@ -1,0 +1,104 @@
+-- Bit flipping meets the demands on a decoder. Assumes nothing.
+use mathlib.Core.Bool.{Bool, true, false}
+use mathlib.Core.List.{List}
+use mathlib.Core.Path.{_≡_, refl, sym, ap, _∙_}
+use Prim.Native.Nat.{ℕ, zero, suc, _+_, _≤_, _<_}
+use native.Mathlib.Nat.{add-zero}
+use native.Mathlib.Decide.{ℕ-discrete}
+use native.Mathlib.Omega.{arith}
+use borrow.Author.Tests.{eq-eqb, ne-eqb, lt-ltb}
+use lib.Dec.{eqb, ltb}
+use lib.ListN.{length}
+use Rattle.maths.specs.Tests.{pick, both}
+use Rattle.maths.specs.Lists.{span}
+use Rattle.maths.specs.Bytes.{Bytes}
+use Rattle.maths.specs.Budget.{End, run}
+use Rattle.maths.proofs.Lists.{span-length}
+use Rattle.maths.proofs.Fronts.{span-of}
+use Rattle.bits.specs.Packed.{byteOf}
+use Rattle.codes.specs.Codes.{rowOf, checksIn}
+use Rattle.codes.specs.Edges.{edges}
+use Rattle.report.specs.declared.Report.{Report}
+use Rattle.report.specs.Report.{refusal, ending}
+use Rattle.bit_flip.specs.Flip.{pass, passes}
+use Rattle.bit_flip.specs.Erasures.{voted, Filled, filled, erasurePasses}
+use Rattle.bit_flip.specs.Outcome.{Outcome, left, decodeWord, received, punctured, decoded, outcome}
+use Rattle.bit_flip.proofs.Theorems.{success-meets, clean}
+use Rattle.agreement.specs.Demands.{Told, told, DecodesByTable, SuccessMeets, FrameReturns, CountsPasses}
+use Rattle.agreement.specs.Ours.{Hard, bitFlip, bitFlipping}
+use Rattle.agreement.proofs.Sender.{bytes-all, sent-bytes, sent-meets}
+use Rattle.agreement.proofs.Limits.{run-counted}
+
+-- a call is accepted, or refused by a number
+module _ (code : ℕ) (b : Hard) (limit : ℕ) where
+  accepted-is : bitFlipping .answer code b ≡ 0 → outcome code (b .input) (b .output) (b .working) limit ≡ decoded code (b .input) limit
+  unfolding outcome
+  accepted-is h = rw (eq-eqb (bitFlipping .answer code b) 0 h)
+
+  refused-is : (bitFlipping .answer code b ≡ 0 → ⊥)
+      → outcome code (b .input) (b .output) (b .working) limit ≡ left (refusal (bitFlipping .answer code b)) (b .output) (b .working)
+  unfolding outcome
+  refused-is h = rw (ne-eqb (bitFlipping .answer code b) 0 h)
+
+  -- a success was accepted
+  pub bit-flip-accepted : bitFlip code b limit .report .success ≡ true → bitFlipping .answer code b ≡ 0
+  bit-flip-accepted e = by (ℕ-discrete (bitFlipping .answer code b) 0)
+    where
+      by : Dec (bitFlipping .answer code b ≡ 0) → bitFlipping .answer code b ≡ 0
+      by (yes h) = h
+      by (no h) = absurd (let z : _≡_ {A = ℕ} 0 1 = cc (ap (λ (x : Outcome). x .report .success) (refused-is h)) in omega arith)
+
+  -- the output is bytes, as many as the code has
+  module _ (h : bitFlipping .answer code b ≡ 0) where
+    pub bit-flip-length : length (bitFlip code b limit .output) ≡ rowOf code .«output_len»
+    unfolding decoded
+    bit-flip-length = rw (accepted-is h) (span-length _ 0 (rowOf code .«output_len»))
+
+    pub bit-flip-bytes : Bytes (bitFlip code b limit .output)
+    unfolding decoded byteOf
+    bit-flip-bytes i l =
+        let k : i < rowOf code .«output_len» = rw bit-flip-length at l in
+        rw (accepted-is h, span-of (byteOf _) (rowOf code .«output_len») i 0 k) (omega arith)
+
+pub bit-flip-table : DecodesByTable bitFlipping bitFlip
+unfolding decoded decodeWord
+bit-flip-table code b limit = by (ℕ-discrete (bitFlipping .answer code b) 0)
+  where
+    by : Dec (bitFlipping .answer code b ≡ 0) → bitFlip code b limit .report .answer ≡ bitFlipping .answer code b
+    by (yes h) = ap (λ (x : Outcome). x .report .answer) (accepted-is code b limit h) ∙ sym h
+    by (no h) = ap (λ (x : Outcome). x .report .answer) (refused-is code b limit h)
+
+pub bit-flip-meets : SuccessMeets bitFlipping bitFlip
+bit-flip-meets code b limit = success-meets code (b .input) (b .output) (b .working) limit
+
+pub bit-flip-returns : FrameReturns bitFlipping bitFlip
+bit-flip-returns code b limit tc sent h k =
+    ap (λ (x : Outcome). told (x .report) (x .output))
+    (clean code (b .input) (b .output) (b .working) limit tc h (bytes-all (b .input) (sent-bytes sent)) (sent-meets sent tc) k)
+
+-- the word that the main passes begin with, where there are some
+abbrev begun : ℕ → List ℕ → List ℕ
+begun code input =
+    pick (both (ltb 0 (rowOf code .«punctured_bits»)) true) (voted (punctured code) (edges code) (received code input)) (received code input)
+
+begun-is : (code : ℕ) (input : List ℕ) (limit : ℕ) → 0 < limit
+    → erasurePasses (punctured code) (edges code) (rowOf code .«punctured_bits») limit (received code input) ≡ filled (begun code input) 0
+unfolding erasurePasses
+begun-is code input limit h = rw (lt-ltb 0 limit h)
+
+-- the report of their run
+abbrev ended : ℕ → ℕ → Filled → Report
+ended code limit s = let e = passes (edges code) (checksIn code) limit (s .word) in ending (e .success) (e .turns + s .count)
+
+report-is : (code : ℕ) (input : List ℕ) (limit : ℕ) → let e = passes (edges code) (checksIn code) limit (begun code input) in
+    decoded code input limit .report ≡ ending (e .success) (e .turns)
+unfolding decoded decodeWord erasurePasses run
+report-is code input zero = refl
+report-is code input (suc limit) =
+    ap (ended code (suc limit)) (begun-is code input (suc limit) (omega arith))
+    ∙ ap (ending (passes (edges code) (checksIn code) (suc limit) (begun code input) .success)) (add-zero _)
+
+pub bit-flip-counts : CountsPasses bitFlipping bitFlip
+bit-flip-counts code b limit h =
+    run-counted (pass (edges code) (checksIn code)) (begun code (b .input)) (λ m. bitFlip code b m .report)
+    (λ m. ap (λ (x : Outcome). x .report) (accepted-is code b m h) ∙ report-is code (b .input) m) limit

@@ -1,0 +1,116 @@
+-- Sender and receiver together, over the bytes in their buffers: demand 3. `Sent` and `Answered` hold the promises of the functions. Assumes nothing.
+use mathlib.Core.Bool.{true}
+use mathlib.Core.List.{List}
+use mathlib.Core.Logic.{_⊎_}
+use mathlib.Core.Path.{_≡_, refl, sym, ap, _∙_}
+use Prim.Native.Nat.{ℕ, _+_, _/_, _%_, _≤_, _<_}
+use native.Mathlib.Omega.{arith}
+use lib.IntN.{ℤ, pos, negsuc}
+use lib.ListN.{length}
+use Rattle.maths.specs.Bits.{bitAt}
+use Rattle.maths.specs.Bytes.{Bytes}
+use Rattle.maths.specs.Distance.{distance}
+use Rattle.maths.proofs.Triangle.{distance-over}
+use Rattle.codes.specs.Codes.{TC, rowOf}
+use Rattle.codes.specs.Equations.{Meets}
+use Rattle.codes.proofs.Codes.{lengths}
+use Rattle.matrices.proofs.Sizes.{tc-bits}
+use Rattle.matrices.proofs.Distances.{near-same, wrong-noticed}
+use Rattle.report.specs.declared.Report.{Report}
+use Rattle.report.specs.Report.{ending}
+use Rattle.bit_flip.specs.Outcome as flip
+use Rattle.min_sum.specs.Confidence.{i8}
+use Rattle.min_sum.specs.Hard.{toHard, toLlrs}
+use Rattle.min_sum.specs.Outcomes.{Outcome, left, decodeOutcome, Written, written, toLlrsOutcome}
+use Rattle.min_sum.proofs.Conversions.{llrs-hard-i8}
+use Rattle.min_sum.proofs.Success.{steady}
+use Rattle.agreement.specs.Parties.{Sent, Answered, by-bit-flipping, by-min-sum}
+use Rattle.agreement.specs.Demands.{Told, told}
+use Rattle.agreement.specs.Ours.{Hard, Soft}
+use Rattle.agreement.proofs.Sender as sender
+use Rattle.agreement.proofs.BitFlip.{bit-flip-table, bit-flip-meets, bit-flip-returns, bit-flip-accepted, bit-flip-bytes, bit-flip-length}
+use Rattle.agreement.proofs.MinSum.{min-sum-table, min-sum-meets, min-sum-returns, min-sum-accepted, min-sum-bytes, min-sum-length}
+
+-- ---- what `hard_to_llrs_i8` leaves
+llrs-of : (code : ℕ) (frame : List ℕ) (before : List ℤ) {answer : ℕ} {llrs : List ℤ} → written answer llrs ≡ toLlrsOutcome (negsuc 0) (pos 1) code frame before → answer ≡ 0
+    → llrs ≡ toLlrs (negsuc 0) (pos 1) frame
+unfolding toLlrsOutcome
+llrs-of code frame before e z =
+    let t = sym (ap (λ (x : Written ℤ). x .answer) e) ∙ z in
+    ap (λ (x : Written ℤ). x .buffer) e ∙ rw t
+
+-- ---- what a success has: for each decoder, by the demands that it meets
+record Succeeded (code : ℕ) (output : List ℕ) : Type 0 where
+  meets : Meets code (bitAt output)
+  bytes : Bytes output
+  long : length output ≡ rowOf code .«output_len»
+
+succeeded : {code : ℕ} {report : Report} {output : List ℕ} → Answered code report output → report .success ≡ true → Succeeded code output
+succeeded {code} (by-bit-flipping input old working working′ limit e) s =
+    let b : Hard = record { input = input; output = old; working = working } in
+    let y = sym (ap (λ (x : flip.Outcome). x .report .success) e) ∙ s in
+    let h = bit-flip-accepted code b limit y in
+    rw (ap (λ (x : flip.Outcome). x .output) e)
+    (record { meets = bit-flip-meets code b limit y; bytes = bit-flip-bytes code b limit h; long = bit-flip-length code b limit h })
+succeeded {code} (by-min-sum llrs working working′ old signs signs′ limit e) s =
+    let b : Soft ℤ = record { llrs = llrs; output = old; working = working; signs = signs } in
+    let y = sym (ap (λ (x : Outcome ℤ). x .report .success) e) ∙ s in
+    let h = min-sum-accepted i8 code b limit y in
+    rw (ap (λ (x : Outcome ℤ). x .output) e)
+    (record { meets = min-sum-meets i8 code b limit y; bytes = min-sum-bytes i8 code b limit h; long = min-sum-length i8 code b limit h })
+
+back : {report : Report} {output frame : List ℕ} → told report output ≡ told (ending true 0) frame
+    → (report .success ≡ true) × (report .iters ≡ 0) × (output ≡ frame)
+back e = (ap (λ (x : Told). x .report .success) e, ap (λ (x : Told). x .report .iters) e, ap (λ (x : Told). x .output) e)
+
+-- ---- "whatever a decoder calls a success meets every parity equation", of all codes
+pub success-meets : {code : ℕ} {report : Report} {output : List ℕ} → Answered code report output → report .success ≡ true → Meets code (bitAt output)
+success-meets a s = succeeded a s .meets
+
+-- ---- TC128, TC256, TC512
+module _ {code : ℕ} (tc : TC code) {frame : List ℕ} (sent : Sent code frame) where
+  -- "every encoded frame meets" the equations
+  pub sent-meets : Meets code (bitAt frame)
+  sent-meets = sender.sent-meets sent tc
+
+  -- a received word that differs from the frame in one, two, three or any odd number of bits is no decoder's success, whatever it reads and whatever the limit
+  pub damage-noticed : {report : Report} {received : List ℕ}
+      → ((0 < distance frame received) × (distance frame received < 4)) ⊎ (distance frame received % 2 ≡ 1)
+      → Answered code report received → report .success ≡ true → ⊥
+  damage-noticed {received = received} wrong a s =
+      wrong-noticed code tc frame received (sender.sent-length sent) wrong sent-meets (success-meets a s)
+
+  -- a success is the frame if its way from there over the received word is of three bits at most
+  pub near-success : (received : List ℕ) {report : Report} {output : List ℕ} → length received ≡ rowOf code .n / 8
+      → distance frame received + distance received output ≤ 3 → Answered code report output → report .success ≡ true → output ≡ frame
+  near-success received {output = output} long near a s =
+      let y = succeeded a s in
+      let whole : rowOf code .«output_len» ≡ rowOf code .n / 8 = omega (arith, lengths code (omega arith) .output, tc-bits code tc) in
+      let over = distance-over frame received output (sender.sent-length sent ∙ sym long) in
+      sym (near-same code tc frame output (sender.sent-length sent) sent-meets (y .meets) (y .long ∙ whole) (sender.sent-bytes sent) (y .bytes) (omega arith))
+
+  -- "if it is at distance at most 1, a successful answer at distance at most 1 from what was received is the frame sent"
+  pub one-corrected : (received : List ℕ) {report : Report} {output : List ℕ} → length received ≡ rowOf code .n / 8
+      → distance frame received ≤ 1 → distance received output ≤ 1 → Answered code report output → report .success ≡ true → output ≡ frame
+  one-corrected received long one near = near-success received long (omega arith)
+
+  -- "unchanged, with a limit of at least 1, it comes back the same with success at iteration 0": by bit flipping,
+  pub unchanged-bit-flipping : (old working : List ℕ) (limit : ℕ) → 1 ≤ limit → {report : Report} {output working′ : List ℕ}
+      → flip.left report output working′ ≡ flip.outcome code frame old working limit → report .answer ≡ 0
+      → (report .success ≡ true) × (report .iters ≡ 0) × (output ≡ frame)
+  unchanged-bit-flipping old working limit k {report} {output} e a =
+      let b : Hard = record { input = frame; output = old; working = working } in
+      let accepted = sym (bit-flip-table code b limit) ∙ sym (ap (λ (x : flip.Outcome). x .report .answer) e) ∙ a in
+      back (ap (λ (x : flip.Outcome). told (x .report) (x .output)) e ∙ bit-flip-returns code b limit tc sent accepted k)
+
+  -- and by min-sum fed through `hard_to_llrs_i8`
+  pub unchanged-min-sum : (answer : ℕ) (before llrs : List ℤ) → written answer llrs ≡ toLlrsOutcome (negsuc 0) (pos 1) code frame before → answer ≡ 0
+      → (old : List ℕ) (working : List ℤ) (signs : List ℕ) (limit : ℕ) → 1 ≤ limit
+      → {report : Report} {output : List ℕ} {working′ : List ℤ} {signs′ : List ℕ}
+      → left report output working′ signs′ ≡ decodeOutcome i8 code llrs old working signs limit → report .answer ≡ 0
+      → (report .success ≡ true) × (report .iters ≡ 0) × (output ≡ frame)
+  unchanged-min-sum answer before llrs w z old working signs limit k {report} {output} e a =
+      let b : Soft ℤ = record { llrs = llrs; output = old; working = working; signs = signs } in
+      let same : toHard i8 llrs ≡ frame = rw (llrs-of code frame before w z) (llrs-hard-i8 frame (sender.bytes-all frame (sender.sent-bytes sent))) in
+      let accepted = sym (min-sum-table i8 code b limit) ∙ sym (ap (λ (x : Outcome ℤ). x .report .answer) e) ∙ a in
+      back (ap (λ (x : Outcome ℤ). told (x .report) (x .output)) e ∙ min-sum-returns i8 (steady 127) code b limit tc (rw same sent) accepted k ∙ rw same)

@@ -1,0 +1,118 @@
+-- Min-sum meets the demands on a decoder, on any steady confidences. Assumes nothing.
+use mathlib.Core.Bool.{Bool, true, false}
+use mathlib.Core.List.{List, _++_, append-nil}
+use mathlib.Core.Path.{_≡_, refl, sym, ap, _∙_}
+use Prim.Native.Nat.{ℕ, _+_, _*_, _/_, _%_, _≤_, _<_}
+use native.Mathlib.Decide.{ℕ-discrete}
+use native.Mathlib.Omega.{arith}
+use lib.ListN.{length, getD, replicate}
+use Rattle.maths.specs.Tests.{pick}
+use Rattle.maths.specs.Bits.{bitAt}
+use Rattle.maths.specs.Bytes.{Bytes}
+use Rattle.maths.specs.Budget.{End, run}
+use Rattle.maths.proofs.Lists.{span-length}
+use Rattle.maths.proofs.Fronts.{span-of}
+use Rattle.codes.specs.Codes.{Known, TC, rowOf, bitsIn, checksIn}
+use Rattle.codes.specs.Edges.{edges}
+use Rattle.codes.specs.Equations.{Meets}
+use Rattle.matrices.proofs.Sizes.{tc-bits}
+use Rattle.matrices.proofs.Edges.{meets-same}
+use Rattle.report.specs.declared.Report.{Report}
+use Rattle.report.specs.Report.{ending}
+use Rattle.min_sum.specs.Confidence.{Confidence, Steady}
+use Rattle.min_sum.specs.MinSum.{Messages, at, hardBits, start, turn, decoded}
+use Rattle.min_sum.specs.Hard.{byteOf, packed, toHard}
+use Rattle.min_sum.specs.Outcomes.{Outcome, decodeAnswer, decodeOutcome, finishedAs}
+use Rattle.min_sum.specs.Working.{Lent}
+use Rattle.min_sum.proofs.Answers.{decode-lent, decode-refused}
+use Rattle.min_sum.proofs.Rows.{fine}
+use Rattle.min_sum.proofs.Packed.{packed-length}
+use Rattle.min_sum.proofs.Success.{sized-state, accepted-is, says-true, at-once, given-bit}
+use Rattle.agreement.specs.Demands.{Told, told, Counted, DecodesByTable, SuccessMeets, FrameReturns, CountsPasses}
+use Rattle.agreement.specs.Ours.{Soft, minSum, minSumming}
+use Rattle.agreement.proofs.Sender.{sent-meets}
+use Rattle.agreement.proofs.Limits.{run-number, run-counted}
+
+-- packed bits are bytes
+bytes-packed : (f : ℕ → ℕ) (n : ℕ) → ((i : ℕ) → f i < 2) → Bytes (packed f n)
+unfolding packed
+bytes-packed f n low i h =
+    let k : i < n = rw (span-length (λ j. byteOf f (8 * j)) 0 n) at h in
+    let a = 8 * i in
+    rw (span-of (λ j. byteOf f (8 * j)) n i 0 k)
+    (omega (arith, low a, low (a + 1), low (a + 2), low (a + 3), low (a + 4), low (a + 4 + 1), low (a + 4 + 2), low (a + 4 + 3)))
+
+module _ {C : Type 0} (o : Confidence C) where
+  pub min-sum-table : DecodesByTable (minSumming o) (minSum o)
+  min-sum-table code b limit = by (ℕ-discrete (minSumming o .answer code b) 0)
+    where
+      by : Dec (minSumming o .answer code b ≡ 0) → minSum o code b limit .report .answer ≡ minSumming o .answer code b
+      by (yes h) = ap (λ (x : Outcome C). x .report .answer) (accepted-is o code (b .llrs) (b .output) (b .working) (b .signs) limit h) ∙ sym h
+      by (no h) = ap (λ (x : Outcome C). x .report .answer) (sym (decode-refused o code (b .llrs) (b .output) (b .working) (b .signs) limit refl h))
+
+  module _ (code : ℕ) (b : Soft C) (limit : ℕ) where
+    -- the run of an accepted call
+    abbrev ran : ℕ → End (Messages C)
+    ran = decoded o code (b .llrs)
+
+    module _ (h : minSumming o .answer code b ≡ 0) where
+      report-is : minSum o code b limit .report ≡ ending (ran limit .success) (ran limit .turns)
+      report-is = ap (λ (x : Outcome C). x .report) (accepted-is o code (b .llrs) (b .output) (b .working) (b .signs) limit h)
+
+      output-is : minSum o code b limit .output ≡ toHard o (ran limit .state .marginals)
+      output-is = ap (λ (x : Outcome C). x .output) (accepted-is o code (b .llrs) (b .output) (b .working) (b .signs) limit h)
+
+      lent : Lent code (rowOf code) (length (b .llrs)) (length (b .output)) (length (b .working))
+      lent = decode-lent code (rowOf code) (length (b .llrs)) (length (b .output)) (length (b .working)) (length (b .signs)) h refl
+
+      -- the output is bytes, as many as the code has
+      pub min-sum-bytes : Bytes (minSum o code b limit .output)
+      min-sum-bytes = rw output-is (bytes-packed (hardBits o (ran limit .state .marginals)) _ (λ i. low (o .hard (at o (ran limit .state .marginals) i))))
+        where
+          low : (x : Bool) → pick x 1 0 < 2
+          low true = omega arith
+          low false = omega arith
+
+      pub min-sum-length : length (minSum o code b limit .output) ≡ rowOf code .«output_len»
+      min-sum-length =
+          rw output-is (packed-length (hardBits o (ran limit .state .marginals)) _
+          ∙ rw (sized-state o code (b .llrs) limit (lent .is-known) (lent .llrs-long)) (omega (arith, fine code (lent .is-known) .output)))
+
+    module _ (e : minSum o code b limit .report .success ≡ true) where
+      -- a success was accepted, and made a pass
+      pub min-sum-accepted : minSumming o .answer code b ≡ 0
+      min-sum-accepted = by (ℕ-discrete (minSumming o .answer code b) 0)
+        where
+          by : Dec (minSumming o .answer code b ≡ 0) → minSumming o .answer code b ≡ 0
+          by (yes h) = h
+          by (no h) =
+              absurd (let f = decode-refused o code (b .llrs) (b .output) (b .working) (b .signs) limit refl h in
+              let z : _≡_ {A = ℕ} 0 1 = cc (ap (λ (x : Outcome C). x .report .success) f) in
+              omega arith)
+
+      passed-once : 1 ≤ limit
+      passed-once =
+          let h = min-sum-accepted in
+          let r = run-number (turn o (edges code) (checksIn code) (rowOf code .«punctured_bits») (b .llrs)) limit 0 _
+          (sym (ap (λ (x : Report). x .success) (report-is h)) ∙ e) in
+          omega arith
+
+  pub min-sum-meets : SuccessMeets (minSumming o) (minSum o)
+  min-sum-meets code b limit e =
+      says-true o code (b .llrs) (b .output) (b .working) (b .signs) limit (min-sum-accepted code b limit e) (passed-once code b limit e) .0 e
+
+  pub min-sum-counts : CountsPasses (minSumming o) (minSum o)
+  min-sum-counts code b limit h =
+      run-counted (turn o (edges code) (checksIn code) (rowOf code .«punctured_bits») (b .llrs))
+      (start o (edges code) (checksIn code) (rowOf code .«punctured_bits») (b .llrs))
+      (λ m. minSum o code b m .report) (λ m. report-is code b m h) limit
+
+  pub min-sum-returns : Steady o → FrameReturns (minSumming o) (minSum o)
+  min-sum-returns st code b limit tc sent h k =
+      let none : rowOf code .«punctured_bits» ≡ 0 = omega (arith, tc-bits code tc) in
+      let given : b .llrs ++ replicate (rowOf code .«punctured_bits») (o .zero) ≡ b .llrs = rw none (append-nil (b .llrs)) in
+      let bits = given-bit o code (b .llrs) (b .output) (b .working) (b .signs) limit h in
+      let good : Meets code (hardBits o (b .llrs)) =
+      meets-same code (omega arith) (bitAt (toHard o (b .llrs))) (hardBits o (b .llrs)) (λ v l. ap (λ (x : ℕ). x % 2) ((rw given at bits) v l)) (sent-meets sent tc) in
+      let e = at-once o code (b .llrs) (b .output) (b .working) (b .signs) limit h st k (rw given good) in
+      ap (λ (x : Outcome C). told (x .report) (x .output)) e ∙ rw given

@@ -1,0 +1,120 @@
+-- One outcome for each input: any two that the promise of a public function allows coincide. Assumes nothing.
+use mathlib.Core.Bool.{Bool}
+use mathlib.Core.List.{List}
+use mathlib.Core.Path.{_≡_, refl, sym, ap, _∙_}
+use Prim.Native.Nat.{ℕ}
+use lib.IntN.{ℤ, pos, negsuc}
+use lib.ListN.{length, getD, replicate}
+use Rattle.maths.specs.Lists.{largestOf}
+use Rattle.bits.specs.Packed.{unpacked, packed}
+use Rattle.codes.specs.declared.ParamsAnswer.{ParamsAnswer}
+use Rattle.codes.specs.declared.«parity_iter».Begun.{Begun}
+use Rattle.codes.specs.declared.«parity_iter».Step.{Step}
+use Rattle.codes.specs.declared.«parity_iter».ParityIter.{ParityIter}
+use Rattle.codes.specs.declared.«parity_iter».Check.{Check}
+use Rattle.codes.specs.declared.«parity_iter».Bit.{Bit}
+use Rattle.codes.specs.declared.runs.Runs.{Runs}
+use Rattle.codes.specs.declared.runs.EdgeRun.{EdgeRun}
+use Rattle.codes.specs.declared.meets.Met.{Met}
+use Rattle.codes.specs.Codes.{paramsOf}
+use Rattle.codes.specs.Walk.{begunOf, stepOf}
+use Rattle.codes.specs.Runs.{Run, run, runsOf, readRuns, within, laid}
+use Rattle.codes.specs.Equations.{wordOf, syndromeOf, metOf}
+use Rattle.report.specs.declared.Report.{Report}
+use Rattle.report.specs.Report.{refusal, ending}
+use Rattle.encoder.specs.Outcomes.{Encoded, encoded, encodeOutcome, copyEncodeOutcome}
+use Rattle.min_sum.specs.Confidence.{i8}
+use Rattle.min_sum.specs.Outcomes.{Outcome, left, decodeOutcome, Written, written, toLlrsOutcome, toHardOutcome}
+
+-- what two outcomes both equal makes them equal
+one : {A : Type 0} {x y z : A} → x ≡ z → y ≡ z → x ≡ y
+one p q = p ∙ sym q
+
+-- ---- bits
+pub unpack-one : (bytes bits : List ℕ) {x y : List ℕ} → x ≡ unpacked bytes bits → y ≡ unpacked bytes bits → x ≡ y
+unpack-one bytes bits = one
+
+pub pack-one : (bits bytes : List ℕ) {x y : List ℕ} → x ≡ packed bits bytes → y ≡ packed bits bytes → x ≡ y
+pack-one bits bytes = one
+
+pub largest-one : (s : List ℕ) {x y : ℕ} → x ≡ largestOf s → y ≡ largestOf s → x ≡ y
+largest-one s = one
+
+pub clear-one : (s : List ℕ) {x y : List ℕ} → x ≡ replicate (length s) 0 → y ≡ replicate (length s) 0 → x ≡ y
+clear-one s = one
+
+-- ---- codes
+pub params-one : (code : ℕ) {x y : ParamsAnswer} → x ≡ paramsOf code → y ≡ paramsOf code → x ≡ y
+params-one code = one
+
+pub iter-paritychecks-one : (code : ℕ) {x y : Begun} → x ≡ begunOf code → y ≡ begunOf code → x ≡ y
+iter-paritychecks-one code = one
+
+pub step-one : (walk : ParityIter) {x y : Step} → x ≡ stepOf walk → y ≡ stepOf walk → x ≡ y
+step-one walk = one
+
+pub runs-of-one : (code : ℕ) {x y : Runs} → x ≡ runsOf code → y ≡ runsOf code → x ≡ y
+runs-of-one code = one
+
+pub run-at-one : (triples : List ℕ) (i : ℕ) {x y : EdgeRun}
+    → run (x .check .0) (x .bit .0) (x .size) ≡ getD (readRuns triples) i (run 0 0 0)
+    → run (y .check .0) (y .bit .0) (y .size) ≡ getD (readRuns triples) i (run 0 0 0) → x ≡ y
+run-at-one triples i p q = ap edge-run (one p q)
+  where
+    edge-run : Run → EdgeRun
+    edge-run r = record { check = record { 0 = r .check }; bit = record { 0 = r .bit }; size = r .size }
+
+pub lies-within-one : (check : Check) (bit : Bit) (size checks bits : ℕ) {x y : Bool}
+    → x ≡ within checks bits (run (check .0) (bit .0) size) → y ≡ within checks bits (run (check .0) (bit .0) size) → x ≡ y
+lies-within-one check bit size checks bits = one
+
+pub syndrome-one : (triples bits checks : List ℕ) {x y : List ℕ}
+    → x ≡ syndromeOf (laid (length checks) (length bits) triples) (length checks) (wordOf bits)
+    → y ≡ syndromeOf (laid (length checks) (length bits) triples) (length checks) (wordOf bits) → x ≡ y
+syndrome-one triples bits checks = one
+
+pub meets-one : (code : ℕ) (word : List ℕ) {x y : Met} → x ≡ metOf code word → y ≡ metOf code word → x ≡ y
+meets-one code word = one
+
+-- ---- report
+pub refused-one : (answer : ℕ) {x y : Report} → x ≡ refusal answer → y ≡ refusal answer → x ≡ y
+refused-one answer = one
+
+pub finished-one : (success : Bool) (iters : ℕ) {x y : Report} → x ≡ ending success iters → y ≡ ending success iters → x ≡ y
+finished-one success iters = one
+
+-- ---- encoder: the answer and the codeword
+encoded-parts : {a a′ : ℕ} {s s′ : List ℕ} → encoded a s ≡ encoded a′ s′ → (a ≡ a′) × (s ≡ s′)
+encoded-parts e = (ap (λ (x : Encoded). x .answer) e, ap (λ (x : Encoded). x .codeword) e)
+
+pub encode-one : (code : ℕ) (codeword : List ℕ) {a a′ : ℕ} {s s′ : List ℕ}
+    → encoded a s ≡ encodeOutcome code codeword → encoded a′ s′ ≡ encodeOutcome code codeword → (a ≡ a′) × (s ≡ s′)
+encode-one code codeword p q = encoded-parts (one p q)
+
+pub copy-encode-one : (code : ℕ) (message codeword : List ℕ) {a a′ : ℕ} {s s′ : List ℕ}
+    → encoded a s ≡ copyEncodeOutcome code message codeword → encoded a′ s′ ≡ copyEncodeOutcome code message codeword → (a ≡ a′) × (s ≡ s′)
+copy-encode-one code message codeword p q = encoded-parts (one p q)
+
+-- ---- min_sum: the report, the output and both working buffers; the answer and the buffer that is written
+pub decode-ms-i8-one : (code : ℕ) (llrs : List ℤ) (output : List ℕ) (working : List ℤ) (signs : List ℕ) (maxiters : ℕ)
+    {r r′ : Report} {o o′ : List ℕ} {w w′ : List ℤ} {s s′ : List ℕ}
+    → left r o w s ≡ decodeOutcome i8 code llrs output working signs maxiters → left r′ o′ w′ s′ ≡ decodeOutcome i8 code llrs output working signs maxiters
+    → (r ≡ r′) × (o ≡ o′) × (w ≡ w′) × (s ≡ s′)
+decode-ms-i8-one code llrs output working signs maxiters p q =
+    let e = one p q in (
+      ap (λ (x : Outcome ℤ). x .report) e,
+      ap (λ (x : Outcome ℤ). x .output) e,
+      ap (λ (x : Outcome ℤ). x .working) e,
+      ap (λ (x : Outcome ℤ). x .«working_u8») e,
+    )
+
+written-parts : {A : Type 0} {a a′ : ℕ} {s s′ : List A} → written a s ≡ written a′ s′ → (a ≡ a′) × (s ≡ s′)
+written-parts {A} e = (ap (λ (x : Written A). x .answer) e, ap (λ (x : Written A). x .buffer) e)
+
+pub hard-to-llrs-i8-one : (code : ℕ) (input : List ℕ) (llrs : List ℤ) {a a′ : ℕ} {s s′ : List ℤ}
+    → written a s ≡ toLlrsOutcome (negsuc 0) (pos 1) code input llrs → written a′ s′ ≡ toLlrsOutcome (negsuc 0) (pos 1) code input llrs → (a ≡ a′) × (s ≡ s′)
+hard-to-llrs-i8-one code input llrs p q = written-parts (one p q)
+
+pub llrs-to-hard-i8-one : (code : ℕ) (llrs : List ℤ) (output : List ℕ) {a a′ : ℕ} {s s′ : List ℕ}
+    → written a s ≡ toHardOutcome i8 code llrs output → written a′ s′ ≡ toHardOutcome i8 code llrs output → (a ≡ a′) × (s ≡ s′)
+llrs-to-hard-i8-one code llrs output p q = written-parts (one p q)

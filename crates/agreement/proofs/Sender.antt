@@ -1,0 +1,130 @@
+-- What an encoder that accepts leaves is the frame of its message: `encode` and `copy_encode` meet the demands, and so does what is sent. Assumes nothing.
+use mathlib.Core.Bool.{Bool, true, false, not}
+use mathlib.Core.List.{List}
+use mathlib.Core.Path.{_≡_, refl, sym, ap, _∙_}
+use Prim.Native.Nat.{ℕ, suc, _/_, _≤_, _<_}
+use native.Mathlib.Decide.{decLt}
+use native.Mathlib.Omega.{arith}
+use borrow.Author.Tests.{ltb-true, eqb-true, eq-eqb, not-false}
+use lib.Dec.{eqb, ltb}
+use lib.ListN.{length, getD, take, length-take, List·getD-eq-default}
+use lib.Seq.{length-take-le, getD-take}
+use Rattle.maths.specs.Tests.{pick}
+use Rattle.maths.specs.Bits.{bitAt}
+use Rattle.maths.specs.Bytes.{Bytes}
+use Rattle.codes.specs.Answers.{unlike}
+use Rattle.codes.specs.Codes.{codes, Known, known, TC, rowOf}
+use Rattle.codes.specs.Equations.{Meets}
+use Rattle.matrices.specs.Frames.{frameOf, encodedBytes}
+use Rattle.matrices.proofs.Sizes.{sizes}
+use Rattle.matrices.proofs.Encoded.{encoded-meets, encoded-length, encoded-bytes, encoded-bits}
+use Rattle.encoder.specs.Outcomes.{Encoded, encoded, encodeOutcome, copyEncodeOutcome}
+use Rattle.agreement.specs.Parties.{Sent, by-encode, by-copy-encode}
+use Rattle.agreement.specs.Demands.{EncodesByTable, EncodesData, FrameMeets}
+use Rattle.agreement.specs.Ours.{encoder, encoding, copyEncoder, copyEncoding}
+
+-- ---- accepted calls: no test fails
+passed : (fails : Bool) (n : ℕ) {rest : ℕ} → pick fails (suc n) rest ≡ 0 → (fails ≡ false) × (rest ≡ 0)
+passed true n e = absurd (omega arith)
+passed false n e = (refl, e)
+
+passed-known : (code : ℕ) → not (known code) ≡ false → Known code
+passed-known code e = ltb-true code codes (not-false (ltb code codes) e)
+
+passed-length : (have want : ℕ) → unlike have want ≡ false → have ≡ want
+passed-length have want e = eqb-true have want (not-false (eqb have want) e)
+
+-- ---- the frame of a message
+pub record Frames (code : ℕ) (message frame : List ℕ) : Type 0 where
+  pub is-known : Known code
+  pub long : length message ≡ rowOf code .k / 8
+  pub is : frame ≡ encodedBytes code message
+
+data-fits : (code : ℕ) (s : List ℕ) → Known code → length s ≡ rowOf code .n / 8 → rowOf code .k / 8 ≤ length s
+data-fits code s h l = omega (arith, sizes code h .data-fits)
+
+pub encode-frames : (code : ℕ) (s : List ℕ) → encodeOutcome code s .answer ≡ 0 → Frames code (take (rowOf code .k / 8) s) (encodeOutcome code s .codeword)
+encode-frames code s e =
+    let t₁ = passed (not (known code)) 0 e in
+    let t₂ = passed (unlike (length s) (rowOf code .n / 8)) 2 (t₁ .1) in
+    let h = passed-known code (t₁ .0) in
+    let l = passed-length (length s) (rowOf code .n / 8) (t₂ .0) in
+    record { is-known = h; long = length-take-le (rowOf code .k / 8) s (data-fits code s h l); is = rw (eq-eqb _ 0 e) }
+
+pub copy-frames : (code : ℕ) (m s : List ℕ) → copyEncodeOutcome code m s .answer ≡ 0 → Frames code m (copyEncodeOutcome code m s .codeword)
+copy-frames code m s e =
+    let t₁ = passed (not (known code)) 0 e in
+    let t₂ = passed (unlike (length m) (rowOf code .k / 8)) 1 (t₁ .1) in
+    record { is-known = passed-known code (t₁ .0); long = passed-length (length m) (rowOf code .k / 8) (t₂ .0); is = rw (eq-eqb _ 0 e) }
+
+module _ {code : ℕ} {message frame : List ℕ} (f : Frames code message frame) where
+  frames-bits : (v : ℕ) → v < rowOf code .n → bitAt frame v ≡ frameOf code (bitAt message) v
+  frames-bits = rw (f .is) (encoded-bits code (f .is-known) message (f .long))
+
+  frames-meets : TC code → Meets code (bitAt frame)
+  frames-meets tc = rw (f .is) (encoded-meets code tc message (f .long))
+
+-- ---- the demands
+pub encode-table : EncodesByTable encoding encoder
+encode-table code b = refl
+
+pub encode-data : EncodesData encoding encoder
+encode-data code b e = frames-bits (encode-frames code b e)
+
+pub encode-meets : FrameMeets encoding encoder
+encode-meets code b tc e = frames-meets (encode-frames code b e) tc
+
+pub copy-table : EncodesByTable copyEncoding copyEncoder
+copy-table code b = refl
+
+pub copy-data : EncodesData copyEncoding copyEncoder
+copy-data code b e = frames-bits (copy-frames code (b .message) (b .codeword) e)
+
+pub copy-meets : FrameMeets copyEncoding copyEncoder
+copy-meets code b tc e = frames-meets (copy-frames code (b .message) (b .codeword) e) tc
+
+-- ---- what is sent
+pub record Message (code : ℕ) (frame : List ℕ) : Type 0 where
+  pub message : List ℕ
+  pub bytes : Bytes message
+  pub frames : Frames code message frame
+
+bytes-take : (n : ℕ) (s : List ℕ) → length (take n s) ≡ n → Bytes s → Bytes (take n s)
+bytes-take n s e b i l =
+    let k : i < n = omega arith in
+    rw (getD-take n s i 0 k) (b i (omega (arith, length-take n s)))
+
+pub bytes-all : (s : List ℕ) → Bytes s → (i : ℕ) → getD s i 0 < 256
+bytes-all s h i = by (decLt i (length s))
+  where
+    by : Dec (i < length s) → getD s i 0 < 256
+    by (yes l) = h i l
+    by (no l) = let k : length s ≤ i = omega arith in rw (List·getD-eq-default s 0 k) (omega arith)
+
+-- what stands in the codeword is the frame
+stands : {code a : ℕ} {m frame : List ℕ} {x : Encoded} → encoded a frame ≡ x → Frames code m (x .codeword) → Frames code m frame
+stands e f = record { is-known = f .is-known; long = f .long; is = ap (λ (y : Encoded). y .codeword) e ∙ f .is }
+
+answered : {a : ℕ} {frame : List ℕ} {x : Encoded} → encoded a frame ≡ x → a ≡ 0 → x .answer ≡ 0
+answered e z = sym (ap (λ (y : Encoded). y .answer) e) ∙ z
+
+pub sent-message : {code : ℕ} {frame : List ℕ} → Sent code frame → Message code frame
+sent-message {code} (by-encode answer s bytes e z) =
+    let f = encode-frames code s (answered e z) in
+    record { message = take (rowOf code .k / 8) s; bytes = bytes-take (rowOf code .k / 8) s (f .long) bytes; frames = stands e f }
+sent-message {code} (by-copy-encode answer m s bytes e z) =
+    record { message = m; bytes = bytes; frames = stands e (copy-frames code m s (answered e z)) }
+
+module _ {code : ℕ} {frame : List ℕ} (sent : Sent code frame) where
+  pub sent-length : length frame ≡ rowOf code .n / 8
+  sent-length =
+      let m = sent-message sent in
+      let f = m .frames in
+      rw (f .is) (encoded-length code (f .is-known) (m .message) (f .long))
+
+  pub sent-bytes : Bytes frame
+  sent-bytes = let m = sent-message sent in rw (m .frames .is) (encoded-bytes code (m .message) (m .bytes))
+
+  -- of a TC code it meets every equation
+  pub sent-meets : TC code → Meets code (bitAt frame)
+  sent-meets = frames-meets (sent-message sent .frames)

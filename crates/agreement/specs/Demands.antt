@@ -1,0 +1,84 @@
+-- What is asked of an encoder and of a decoder: each demand is a predicate of what its calls leave. Assumes nothing.
+use mathlib.Core.Bool.{true, false}
+use mathlib.Core.List.{List}
+use mathlib.Core.Path.{_≡_}
+use Prim.Native.Nat.{ℕ, _+_, _≤_, _<_}
+use Rattle.maths.specs.Bits.{bitAt}
+use Rattle.codes.specs.Codes.{TC, rowOf}
+use Rattle.codes.specs.Equations.{Meets}
+use Rattle.matrices.specs.Frames.{frameOf}
+use Rattle.report.specs.declared.Report.{Report}
+use Rattle.report.specs.Report.{ending}
+use Rattle.encoder.specs.Outcomes.{Encoded}
+use Rattle.agreement.specs.Parties.{Sent}
+
+-- ---- an encoder: by code and the buffers that it is lent, its answer and the codeword
+abbrev pub Encoder : Type 0 → Type 0
+Encoder B = ℕ → B → Encoded
+
+-- how it is called: the number of the first test that the buffers fail, or 0, the message that they bring, and the codeword before
+pub record Sending (B : Type 0) : Type 0 where
+  pub answer : ℕ → B → ℕ
+  pub message : ℕ → B → List ℕ
+  pub codeword : B → List ℕ
+
+module _ {B : Type 0} (calls : Sending B) (e : Encoder B) where
+  -- the refusal table
+  abbrev pub EncodesByTable : Type 0
+  EncodesByTable = (code : ℕ) (b : B) → e code b .answer ≡ calls .answer code b
+
+  -- demand 2's encoder: the data, and the parity bits that it adds up to
+  abbrev pub EncodesData : Type 0
+  EncodesData = (code : ℕ) (b : B) → calls .answer code b ≡ 0 → (v : ℕ) → v < rowOf code .n
+      → bitAt (e code b .codeword) v ≡ frameOf code (bitAt (calls .message code b)) v
+
+  -- demand 3: every encoded frame of a TC code meets the parity equations
+  abbrev pub FrameMeets : Type 0
+  FrameMeets = (code : ℕ) (b : B) → TC code → calls .answer code b ≡ 0 → Meets code (bitAt (e code b .codeword))
+
+-- ---- a decoder: by code, the buffers that it is lent and the limit, its report and the output
+pub record Told : Type 0 where
+  pub report : Report
+  pub output : List ℕ
+
+abbrev pub told : Report → List ℕ → Told
+told r o = record { report = r; output = o }
+
+abbrev pub Decoder : Type 0 → Type 0
+Decoder B = ℕ → B → ℕ → Told
+
+-- how it is called: the number of the first test that the buffers fail, or 0, the word that they bring, and the output before
+pub record Receiving (B : Type 0) : Type 0 where
+  pub answer : ℕ → B → ℕ
+  pub word : B → List ℕ
+  pub output : B → List ℕ
+
+-- "it must be the pass at which the equations first hold": the iterations of a report, by the reports under every limit.
+-- With no success all passes are made; a success has the number of a pass, succeeds if that pass is the last, and not with fewer
+pub record Counted (under : ℕ → Report) (limit : ℕ) : Type 0 where
+  pub spent : under limit .success ≡ false → under limit .iters ≡ limit
+  pub within : under limit .success ≡ true → under limit .iters < limit
+  pub enough : under limit .success ≡ true → under (under limit .iters + 1) .success ≡ true
+  pub first : under limit .success ≡ true → (fewer : ℕ) → fewer ≤ under limit .iters → under fewer .success ≡ false
+
+module _ {B : Type 0} (calls : Receiving B) (d : Decoder B) where
+  -- the refusal table
+  abbrev pub DecodesByTable : Type 0
+  DecodesByTable = (code : ℕ) (b : B) (limit : ℕ) → d code b limit .report .answer ≡ calls .answer code b
+
+  -- demand 3: whatever it calls a success meets every parity equation
+  abbrev pub SuccessMeets : Type 0
+  SuccessMeets = (code : ℕ) (b : B) (limit : ℕ) → d code b limit .report .success ≡ true → Meets code (bitAt (d code b limit .output))
+
+  -- demand 3: a frame of a TC code that comes unchanged, with a limit of at least 1, comes back the same with success at iteration 0
+  abbrev pub FrameReturns : Type 0
+  FrameReturns = (code : ℕ) (b : B) (limit : ℕ) → TC code → Sent code (calls .word b) → calls .answer code b ≡ 0 → 1 ≤ limit
+      → d code b limit ≡ told (ending true 0) (calls .word b)
+
+  -- demand 2: the iteration number is the pass count
+  abbrev pub CountsPasses : Type 0
+  CountsPasses = (code : ℕ) (b : B) (limit : ℕ) → calls .answer code b ≡ 0 → Counted (λ m. d code b m .report) limit
+
+-- demand 2: the output is the definition's, for each limit
+abbrev pub DecodesAs : {B : Type 0} → Decoder B → Decoder B → Type 0
+DecodesAs {B} definition d = (code : ℕ) (b : B) (limit : ℕ) → d code b limit .output ≡ definition code b limit .output

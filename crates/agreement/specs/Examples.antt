@@ -1,0 +1,51 @@
+-- The examples of document 01 that are marked P, as one claim about the definitions. Assumes nothing.
+use mathlib.Core.Bool.{true, false}
+use mathlib.Core.List.{List, [], _∷_}
+use mathlib.Core.Path.{_≡_}
+use Prim.Native.Nat.{ℕ, _-_, _/_, _%_, _^_}
+use lib.IntN.{ℤ, pos, negsuc}
+use lib.ListN.{length, getD, drop, replicate}
+use Rattle.maths.specs.Lists.{span}
+use Rattle.codes.specs.Codes.{Known, rowOf, paramsOf, generatorOf}
+use Rattle.codes.specs.Edges.{identityColumn}
+use Rattle.codes.specs.Walk.{remaining, begunOf}
+use Rattle.matrices.specs.Frames.{encodedBytes}
+use Rattle.report.specs.Report.{ending}
+use Rattle.encoder.specs.Rotation.{rotated}
+use Rattle.bit_flip.specs.Outcome as flip
+use Rattle.min_sum.specs.Confidence.{i8}
+use Rattle.min_sum.specs.MinSum.{hardBits}
+use Rattle.min_sum.specs.Outcomes.{left, decodeAnswer, decodeOutcome}
+
+-- n zero bytes
+abbrev pub zeros : ℕ → List ℕ
+zeros n = replicate n 0
+
+pub record Examples : Type 0 where
+  -- "identity block, M 16, value 7, row 12: column 3."
+  pub identity : identityColumn 16 7 12 ≡ 3
+  -- "100 + 50 = 127; -100 - 50 = -128; |-128| = 127; hard bit of 0 is 0."
+  pub sum : i8 .add (pos 100) (pos 50) ≡ pos 127
+  pub difference : i8 .subtract (negsuc 99) (pos 50) ≡ negsuc 127
+  pub magnitude : i8 .magnitude (negsuc 127) ≡ pos 127
+  pub hard-bit : hardBits i8 (pos 0 ∷ []) 0 ≡ 0
+  -- "the 16-bit block 8001 (hex) rotated left by one is 0003."
+  pub rotation : rotated (0x80 ∷ 0x01 ∷ []) 0 2 ≡ 0x00 ∷ 0x03 ∷ []
+  -- "TC128 walk: 512 edges."
+  pub walk : length (remaining (begunOf 0 .walk)) ≡ 512
+  -- "zero data encodes to zeros."
+  pub zero-data : (code : ℕ) → Known code → encodedBytes code (zeros (rowOf code .k / 8)) ≡ zeros (rowOf code .n / 8)
+  -- "TC128 data with only bit 0 set: parity is the first generator word, high byte first."
+  pub one-bit : drop 8 (encodedBytes 0 (0x80 ∷ zeros 7)) ≡ span (λ i. getD (generatorOf 0) 0 0 / 256 ^ (7 - i) % 256) 0 8
+  -- "zero TC128 frame, bf: limit 1 gives (true, 0), limit 0 gives (false, 0)."
+  pub flip-once : (old working : List ℕ) → length old ≡ 16 → length working ≡ 128
+      → flip.outcome 0 (zeros 16) old working 1 ≡ flip.left (ending true 0) (zeros 16) (zeros 128)
+  pub flip-never : (old working : List ℕ) → length old ≡ 16 → length working ≡ 128
+      → flip.outcome 0 (zeros 16) old working 0 ≡ flip.left (ending false 0) (zeros 16) (zeros 128)
+  -- "zero LLRs, limit 1, ms: (true, 0), zeros."
+  pub soft-once : (code : ℕ) (old signs : List ℕ) (working : List ℤ) → decodeAnswer code (rowOf code .n) (length old) (length working) (length signs) ≡ 0
+      → decodeOutcome i8 code (replicate (rowOf code .n) (pos 0)) old working signs 1
+      ≡ left (ending true 0) (zeros (rowOf code .«output_len»)) (replicate (length working) (pos 0)) (zeros (length signs))
+  -- "code 6 accepted, 7 refused 1."
+  pub last-code : paramsOf 6 .answer ≡ 0
+  pub no-code : paramsOf 7 .answer ≡ 1

@@ -1,0 +1,4 @@
+pub mod Parties
+pub mod Demands
+pub mod Ours
+pub mod Examples
