@@ -5,3 +5,4 @@ pub mod MinSum
 pub mod BitFlip
 pub mod Demand3
 pub mod Zeros
+pub mod Examples
