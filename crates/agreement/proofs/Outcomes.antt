@@ -23,6 +23,7 @@ use Rattle.codes.specs.Equations.{wordOf, syndromeOf, metOf}
 use Rattle.report.specs.declared.Report.{Report}
 use Rattle.report.specs.Report.{refusal, ending}
 use Rattle.encoder.specs.Outcomes.{Encoded, encoded, encodeOutcome, copyEncodeOutcome}
+use Rattle.bit_flip.specs.Outcome as flip
 use Rattle.min_sum.specs.Confidence.{i8}
 use Rattle.min_sum.specs.Outcomes.{Outcome, left, decodeOutcome, Written, written, toLlrsOutcome, toHardOutcome}
 
@@ -94,6 +95,14 @@ encode-one code codeword p q = encoded-parts (one p q)
 pub copy-encode-one : (code : ℕ) (message codeword : List ℕ) {a a′ : ℕ} {s s′ : List ℕ}
     → encoded a s ≡ copyEncodeOutcome code message codeword → encoded a′ s′ ≡ copyEncodeOutcome code message codeword → (a ≡ a′) × (s ≡ s′)
 copy-encode-one code message codeword p q = encoded-parts (one p q)
+
+-- ---- bit_flip: the report, the output and the working buffer
+pub decode-bf-one : (code : ℕ) (input output working : List ℕ) (maxiters : ℕ) {r r′ : Report} {o o′ w w′ : List ℕ}
+    → flip.left r o w ≡ flip.outcome code input output working maxiters → flip.left r′ o′ w′ ≡ flip.outcome code input output working maxiters
+    → (r ≡ r′) × (o ≡ o′) × (w ≡ w′)
+decode-bf-one code input output working maxiters p q =
+    let e = one p q in
+    (ap (λ (x : flip.Outcome). x .report) e, ap (λ (x : flip.Outcome). x .output) e, ap (λ (x : flip.Outcome). x .working) e)
 
 -- ---- min_sum: the report, the output and both working buffers; the answer and the buffer that is written
 pub decode-ms-i8-one : (code : ℕ) (llrs : List ℤ) (output : List ℕ) (working : List ℤ) (signs : List ℕ) (maxiters : ℕ)

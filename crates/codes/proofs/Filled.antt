@@ -1,17 +1,16 @@
 -- The runs of a code fit the list that holds them. Assumes nothing.
 use mathlib.Core.Bool.{Bool}
-use mathlib.Core.Path.{_≡_, refl, sym, ap, _∙_}
+use mathlib.Core.Path.{_≡_, refl, sym, _∙_}
 use mathlib.Core.List.{List, [], _∷_, _++_, flatMap}
-use Prim.Native.Nat.{ℕ, zero, suc, _+_, _-_, _*_, _≤_, _<_}
-use native.Mathlib.Nat.{sub-zero}
+use Prim.Native.Nat.{ℕ, _+_, _-_, _*_, _≤_, _<_}
 use native.Mathlib.Omega.{arith}
 use lib.Dec.{T, leb, leb→le}
-use lib.ListN.{length, drop, replicate, length-replicate}
-use lib.Seq.{sets, sets-eq}
+use lib.ListN.{length, replicate}
 use borrow.Author.Tests.{lt-ltb, le-ltb}
 use Rattle.maths.specs.Tests.{below}
 use Rattle.maths.specs.Lists.{span}
 use Rattle.maths.proofs.Tests.{below-at}
+use Rattle.maths.proofs.Stores.{sets-replicate}
 use Rattle.codes.specs.declared.runs.Runs.{Runs}
 use Rattle.codes.specs.Tables.{prototypes, thetas, phis}
 use Rattle.codes.specs.Codes.{codes, Known, rows, tables, Matrix, matrixOf, prototypeOf}
@@ -47,22 +46,11 @@ fills code h =
     }
 
 -- the list as it was before the first run, and as it is after them all
-drop-replicate : (k n x : ℕ) → drop k (replicate n x) ≡ replicate (n - k) x
-drop-replicate zero n x = rw (sub-zero n)
-drop-replicate (suc k) zero x =
-    let e : zero - suc k ≡ 0 = omega arith in
-    rw e
-drop-replicate (suc k) (suc n) x =
-    let e : suc n - suc k ≡ n - k = omega arith in
-    rw e (drop-replicate k n x)
-
 pub filled : (ds : List Run) {l : List ℕ} {t : ℕ} → length ds ≤ room → Stored (replicate (3 * room) 0) 0 ds l t → l ≡ numbers ds ++ replicate (3 * (room - length ds)) 0
 filled ds few s =
     let n = numbers-length ds in
-    let e : 3 * room - (0 + length (numbers ds)) ≡ 3 * (room - length ds) = omega arith in
-    s .is
-    ∙ sets-eq (numbers ds) (replicate (3 * room) 0) (3 * 0) (rw (length-replicate {A = ℕ} (3 * room) 0) (omega arith))
-    ∙ ap (λ (z : List ℕ). numbers ds ++ z) (drop-replicate (0 + length (numbers ds)) (3 * room) 0 ∙ rw e)
+    let e : 3 * room - length (numbers ds) ≡ 3 * (room - length ds) = omega arith in
+    s .is ∙ sets-replicate (numbers ds) (3 * room) 0 (omega arith) ∙ rw e
 
 pub runs-by : (code : ℕ) → Known code → {l : List ℕ} {t : ℕ} → Stored (replicate (3 * room) 0) 0 (flatMap (blockRuns (matrixOf code)) (blocks (prototypeOf code))) l t
     → record { count = t; triples = l } ≡ runsOf code

@@ -2,19 +2,14 @@
 use mathlib.Core.Path.{_≡_, refl, sym, ap, _∙_}
 use mathlib.Core.List.{List, [], _∷_, _++_, append-nil, append-assoc}
 use Prim.Native.Nat.{ℕ, zero, suc, _+_, _-_, _*_, _/_, _%_, _≤_}
-use native.Mathlib.Nat.{add-zero}
 use native.Mathlib.Omega.{arith}
 use borrow.Author.Tests.{eq-eqb, ne-eqb}
 use lib.ListN.{length, getD, set, length-append}
-use lib.Seq.{sets}
 use lib.Dec.{eqb}
 use native.Mathlib.Numerals.{add-one}
 use Rattle.maths.proofs.Tests.{pick-both}
+use Rattle.maths.proofs.Stores.{sets-append}
 use Rattle.codes.specs.Runs.{Run, run, turned, quarters, numbers, Stored}
-
-sets-append : (xs ys l : List ℕ) (i j : ℕ) → j ≡ i + length xs → sets l i (xs ++ ys) ≡ sets (sets l i xs) j ys
-sets-append [] ys l i j e = rw (e, add-zero i)
-sets-append (x ∷ xs) ys l i j e = sets-append xs ys (set l i x) (suc i) j (omega arith)
 
 pub numbers-append : (ds es : List Run) → numbers (ds ++ es) ≡ numbers ds ++ numbers es
 unfolding numbers

@@ -14,3 +14,4 @@ pub mod Budget
 pub mod Parts
 pub mod Tested
 pub mod Fronts
+pub mod Stores
