@@ -100,13 +100,18 @@ fn compare_bf(i: usize, code: LDPCCode, cases: usize, dice: &mut Dice) -> Tally 
     tally
 }
 
+fn zero_word(code: LDPCCode, dice: &mut Dice) -> Vec<i8> {
+    (0..code.n()).map(|_| dice.below(128) as i8).collect()
+}
+
 fn compare_ms(i: usize, code: LDPCCode, cases: usize, dice: &mut Dice) -> Tally {
     let mut tally = Tally::default();
     let (mut theirs, mut ours) = (vec![0; code.output_len()], vec![0; code.output_len()]);
     let (mut w, mut v) = (vec![0i8; code.decode_ms_working_len()], vec![0i8; code.decode_ms_working_len()]);
     let (mut s, mut t) = (vec![0; code.decode_ms_working_u8_len()], vec![0; code.decode_ms_working_u8_len()]);
     for _ in 0..cases {
-        let input = confidences(code, dice);
+        // the zero word at any strengths is a TM code's way to a success at 0
+        let input = if dice.below(6) == 0 { zero_word(code, dice) } else { confidences(code, dice) };
         let most = limit(dice);
         dice.fill(&mut ours);
         dice.fill(&mut t);
