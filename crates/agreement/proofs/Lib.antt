@@ -6,3 +6,5 @@ pub mod BitFlip
 pub mod Demand3
 pub mod Zeros
 pub mod Examples
+pub mod Passes
+pub mod Idle

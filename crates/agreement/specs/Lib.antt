@@ -2,3 +2,4 @@ pub mod Parties
 pub mod Demands
 pub mod Ours
 pub mod Examples
+pub mod Idle

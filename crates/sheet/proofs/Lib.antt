@@ -1,3 +1,4 @@
+pub mod Rooms
 pub mod Turns
 pub mod Lines
 pub mod Glyphs
@@ -8,3 +9,4 @@ pub mod Fields
 pub mod BothWays
 pub mod Parts
 pub mod Examples
+pub mod Answers

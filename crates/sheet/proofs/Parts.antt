@@ -2,14 +2,16 @@
 use mathlib.Core.Bool.{true}
 use mathlib.Core.List.{List, [], _∷_, _++_, append-assoc}
 use mathlib.Core.Path.{_≡_, refl, ap, subst, _∙_}
-use Prim.Native.Nat.{ℕ, _+_, _-_, _*_, _≤_, _<_}
+use Prim.Native.Nat.{ℕ, _+_, _-_, _*_, _/_, _≤_, _<_}
 use native.Mathlib.Omega.{arith}
-use lib.ListN.{length, take, drop, length-append}
-use lib.Seq.{take-at, drop-at}
+use lib.ListN.{length, take, drop, replicate, length-append}
+use lib.Seq.{take-at, drop-at, sets}
+use Rattle.maths.proofs.Stores.{sets-replicate}
+use Rattle.maths.specs.Bytes.{Bytes}
 use Rattle.sheet.specs.declared.read.Op.{Op}
 use Rattle.sheet.specs.declared.read.Op.the-variants.{Encode, Bf, Ms}
 use Rattle.sheet.specs.declared.read.Request.{Request}
-use Rattle.sheet.specs.declared.read.Reading.the-variants.{Asks}
+use Rattle.sheet.specs.declared.read.Reading.the-variants.{Malformed, Asks}
 use Rattle.sheet.specs.Text.{ascii, newline, glyph, decimal, hex, nameOf, line, spell, Spells}
 use Rattle.sheet.specs.Reading.{hexText, unhex, Sheet, malformed, sheet, parse, placed, readOf}
 use Rattle.sheet.proofs.Decimals.{decimal-long}
@@ -85,9 +87,43 @@ asked s q e = go (parse s) refl e
         (let same : record { code = code; op = op; maxiters = maxiters; start = length s - 1 - 2 * length frame; digits = 2 * length frame } ≡ q = cc in same)
         (parts code op maxiters frame s (accepted code op maxiters frame s p) p)
 
--- the digits are hex, and the frame is what they say
-pub frame-hex : (s : List ℕ) (q : Request) → (a : Asked s q) → hexText (take (q .digits) (drop (q .start) s)) ≡ true
-frame-hex s q a = rw (a .shown) (hex-read (a .frame) (accepted _ _ _ _ s (a .parsed) .bytes))
+-- a text that asks for nothing is malformed
+pub asked-nothing : (s : List ℕ) → readOf s ≡ Malformed → parse s ≡ malformed
+asked-nothing s e = go (parse s) refl e
+  where
+    go : (r : Sheet) → parse s ≡ r → placed (length s) r ≡ Malformed → parse s ≡ malformed
+    go malformed p e = p
+    go (sheet code op maxiters frame) p e = absurd (let z : _≡_ {A = ℕ} 0 1 = cc in omega arith)
 
-pub frame-is : (s : List ℕ) (q : Request) → (a : Asked s q) → unhex (take (q .digits) (drop (q .start) s)) ≡ a .frame
-frame-is s q a = rw (a .shown) (unhex-hex (a .frame) (accepted _ _ _ _ s (a .parsed) .bytes))
+-- ---- the bytes of the frame, read from the text into a buffer of zeros
+abbrev digitsOf : List ℕ → Request → List ℕ
+digitsOf s q = take (q .start + q .digits - q .start) (drop (q .start) s)
+
+module _ (s : List ℕ) (q : Request) (a : Asked s q) where
+  digits-are : digitsOf s q ≡ hex (a .frame)
+  digits-are =
+      let n : q .start + q .digits - q .start ≡ q .digits = omega arith in
+      rw n (a .shown)
+
+  frame-bytes : Bytes (a .frame)
+  frame-bytes = accepted _ _ _ _ s (a .parsed) .bytes
+
+  -- the digits are hex, and the buffer has room for what they say
+  pub digits-hex : hexText (digitsOf s q) ≡ true
+  digits-hex = rw digits-are (hex-read (a .frame) frame-bytes)
+
+  pub digits-few : length (digitsOf s q) ≤ 8160
+  digits-few = rw (digits-are, hex-length (a .frame)) (omega (arith, a .short))
+
+  module _ {buffer : List ℕ} (e : buffer ≡ sets (replicate 4080 0) 0 (unhex (digitsOf s q))) where
+    buffer-is : buffer ≡ a .frame ++ replicate (4080 - length (a .frame)) 0
+    buffer-is = e ∙ rw (digits-are, unhex-hex (a .frame) frame-bytes) (sets-replicate (a .frame) 4080 0 (a .short))
+
+    half : q .digits / 2 ≡ length (a .frame)
+    half = omega (arith, a .even)
+
+    pub frame-fits : q .digits / 2 ≤ length buffer
+    frame-fits = rw (buffer-is, half, length-append (a .frame) (replicate (4080 - length (a .frame)) 0)) (omega arith)
+
+    pub frame-there : take (q .digits / 2) buffer ≡ a .frame
+    frame-there = rw (buffer-is, half) (take-at (a .frame) (replicate (4080 - length (a .frame)) 0) (length (a .frame)) refl)

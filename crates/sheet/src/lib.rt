@@ -1,5 +1,50 @@
-// The bench sheet: four lines of text that ask for one operation, and four that answer. What is asked is found by read, its frame by
-// hex_bytes, and the answer is written by print.
+// The bench sheet: four lines of text that ask for one operation, and four that answer.
+ghost use mathlib.Core.Path.{_≡_};
+ghost use Rattle.sheet.specs.Printing.{answerOf};
+ghost use Rattle.sheet.specs.Sheet.{sheetOf, answerTo};
+ghost use Rattle.sheet.specs.Reading.{sheet};
+
+mod operations;
 pub mod print;
 pub mod read;
 mod values;
+
+use operations::encode_frame;
+use operations::flip_frame;
+use operations::print_report;
+use operations::soft_frame;
+use print::Answer;
+use read::Op;
+use read::Reading;
+use read::read;
+use report::refused;
+use values::hex_bytes;
+
+// The text is no sheet.
+pub const MALFORMED: u8 = 9;
+
+fn answer_to(code: usize, op: Op, maxiters: usize, frame: &[u8]) -> Answer
+    ensures { λ r. ⌜ r ≡ answerOf (answerTo (sheet code op maxiters (now (frame .entry)))) ⌝ }
+{
+    match op {
+        Op::Encode => encode_frame(code, frame),
+        Op::Bf => flip_frame(code, frame, maxiters),
+        Op::Ms => soft_frame(code, frame, maxiters),
+    }
+}
+
+// The answer to a sheet, whatever the text.
+pub fn sheet(text: &[u8]) -> Answer
+    ensures { λ r. ⌜ r ≡ answerOf (sheetOf (now (text .entry))) ⌝ }
+{
+    let Reading::Asks(q) = read(text) else {
+        return print_report(refused(MALFORMED), &text[..0]);
+    };
+    let from = q.start;
+    let to = from + q.digits;
+    let n = q.digits / 2;
+    let op = q.op;
+    let mut frame = [0u8; 4080];
+    hex_bytes(&text[from..to], &mut frame);
+    answer_to(q.code, op, q.maxiters, &frame[..n])
+}

@@ -1,0 +1,191 @@
+-- No idle version meets the demands: calls on TC128 tell each from ours, for both encoders and both decoders. Assumes nothing.
+use mathlib.Core.Bool.{Bool, true, false}
+use mathlib.Core.List.{List, _∷_}
+use mathlib.Core.Path.{_≡_, refl, sym, ap, _∙_}
+use Prim.Native.Nat.{ℕ, zero, suc, _+_, _%_, _≤_, _<_}
+use native.Mathlib.Decide.{decLt}
+use native.Mathlib.Omega.{arith}
+use lib.ListN.{length, getD}
+use Rattle.maths.specs.Bits.{bitAt}
+use Rattle.maths.specs.Bytes.{Bytes}
+use Rattle.codes.specs.Codes.{rows}
+use Rattle.matrices.specs.Frames.{frameOf, encodedBytes}
+use Rattle.matrices.proofs.Edges.{meets-same}
+use Rattle.matrices.proofs.Encoded.{encoded-meets, encoded-bits}
+use Rattle.report.specs.declared.Report.{Report}
+use Rattle.report.specs.Report.{ending}
+use Rattle.min_sum.specs.Confidence.{i8}
+use Rattle.min_sum.proofs.Conversions.{llrs-hard-i8}
+use Rattle.min_sum.proofs.Marginals.{replicate-at}
+use Rattle.min_sum.proofs.Success.{steady}
+use Rattle.agreement.specs.Parties.{Sent, by-copy-encode}
+use Rattle.agreement.specs.Demands.{Sending, Told, told, Decoder, Receiving, Counted, FrameReturns, CountsPasses}
+use Rattle.agreement.specs.Ours.{encoding, copyEncoding, bitFlip, bitFlipping, minSum, minSumming}
+use Rattle.agreement.specs.Examples.{zeros}
+use Rattle.agreement.specs.Idle.{NoIdleEncoder, rests, fails, decodesAlike, renumbered, NoIdleDecoder}
+use Rattle.agreement.proofs.Sender.{bytes-all, sent-bytes, sent-length, sent-meets}
+use Rattle.agreement.proofs.BitFlip.{bit-flip-returns, bit-flip-counts}
+use Rattle.agreement.proofs.MinSum.{min-sum-returns, min-sum-counts}
+use Rattle.agreement.proofs.Passes.{spoilt, hardLent, softLent, spoilt-unmet, flip-misses, flip-moves, soft-accepted, soft-misses, soft-moves}
+
+-- ---- reports that say true under the same limits, and count their passes, have the same numbers
+counted-least : (r s : ℕ → Report) → ((m : ℕ) → r m .success ≡ s m .success) → (limit : ℕ) → Counted r limit → Counted s limit → r limit .success ≡ true
+    → s limit .iters ≤ r limit .iters
+counted-least r s same limit c d e = by (decLt (r limit .iters) (s limit .iters))
+  where
+    by : Dec (r limit .iters < s limit .iters) → s limit .iters ≤ r limit .iters
+    by (yes h) =
+        absurd (let t : s (r limit .iters + 1) .success ≡ true = sym (same _) ∙ c .enough e in
+        let f : s (r limit .iters + 1) .success ≡ false = d .first (sym (same limit) ∙ e) _ (omega arith) in
+        let z : _≡_ {A = ℕ} 0 1 = cc in
+        omega arith)
+    by (no h) = omega arith
+
+counted-same : (r s : ℕ → Report) → ((m : ℕ) → r m .success ≡ s m .success) → (limit : ℕ) → Counted r limit → Counted s limit → r limit .iters ≡ s limit .iters
+counted-same r s same limit c d = by (r limit .success) refl
+  where
+    by : (b : Bool) → r limit .success ≡ b → r limit .iters ≡ s limit .iters
+    by true e =
+        let l = counted-least r s same limit c d e in
+        let g = counted-least s r (λ m. sym (same m)) limit d c (sym (same limit) ∙ e) in
+        omega arith
+    by false e = c .spent e ∙ sym (d .spent (sym (same limit) ∙ e))
+
+-- so a made-up number is the number
+made-up : {B : Type 0} (calls : Receiving B) (d : Decoder B) (number : ℕ → B → ℕ → ℕ) → CountsPasses calls d → CountsPasses calls (renumbered number d)
+    → (code : ℕ) (b : B) (limit : ℕ) → calls .answer code b ≡ 0 → number code b limit ≡ d code b limit .report .iters
+made-up calls d number counts counts′ code b limit a =
+    counted-same (λ m. renumbered number d code b m .report) (λ m. d code b m .report) (λ m. refl) limit (counts′ code b limit a) (counts code b limit a)
+
+-- ---- two messages, and their frames
+bytes-then : (x n : ℕ) → x < 256 → Bytes (x ∷ zeros n)
+bytes-then x n h zero l = h
+bytes-then x n h (suc i) l = rw (replicate-at {A = ℕ} n 0 i) (omega arith)
+
+abbrev message : ℕ → List ℕ
+message x = x ∷ zeros 7
+
+abbrev frame : ℕ → List ℕ
+frame x = encodedBytes 0 (message x)
+
+frame-sent : (x : ℕ) → x < 256 → Sent 0 (frame x)
+unfolding rows
+frame-sent x h = by-copy-encode 0 (message x) spoilt (bytes-then x 7 h) refl refl
+
+frames-apart : frame 0 ≡ frame 0xff → ⊥
+unfolding encodedBytes
+frames-apart e = let z : _≡_ {A = ℕ} 0 255 = ap (λ (s : List ℕ). getD s 0 0) e in omega arith
+
+-- ---- encoders: calls that are accepted, and bring such a message
+record Sends {B : Type 0} (calls : Sending B) : Type 0 where
+  lend : ℕ → B
+  accepted : (x : ℕ) → calls .answer 0 (lend x) ≡ 0
+  brings : (x : ℕ) → calls .message 0 (lend x) ≡ message x
+  before : calls .codeword (lend 0xff) ≡ spoilt
+
+module _ {B : Type 0} {calls : Sending B} (c : Sends calls) where
+  -- bit 0 of the frame of a message is its own
+  first-bit : (s : List ℕ) (x : ℕ) → ((v : ℕ) → v < 128 → bitAt s v ≡ frameOf 0 (bitAt (calls .message 0 (c .lend x))) v) → bitAt s 0 ≡ bitAt (message x) 0
+  unfolding rows
+  first-bit s x is = is 0 (omega arith) ∙ rw (c .brings x)
+
+  no-idle-encoder : NoIdleEncoder calls
+  unfolding rows
+  no-idle-encoder =
+      record {
+        refusing = λ number low table. omega (arith, low 0 (c .lend 0), table 0 (c .lend 0) ∙ c .accepted 0);
+        one-answer = λ x frames.
+            let zero-bit : bitAt (x .codeword) 0 ≡ 0 = first-bit (x .codeword) 0 (frames 0 (c .lend 0) (c .accepted 0)) in
+            let one-bit : bitAt (x .codeword) 0 ≡ 1 = first-bit (x .codeword) 0xff (frames 0 (c .lend 0xff) (c .accepted 0xff)) in
+            omega arith;
+        resting = λ answers frames.
+            spoilt-unmet (meets-same 0 (omega arith) (bitAt (frame 0xff)) (bitAt spoilt) (λ v h. ap (λ (x : ℕ). x % 2)
+            (encoded-bits 0 (omega arith) (message 0xff) refl v h ∙ sym ((rw (c .before, c .brings 0xff) at (frames 0 (c .lend 0xff) (c .accepted 0xff))) v h)))
+            (encoded-meets 0 (omega arith) (message 0xff) refl));
+        resting-frame = λ answers meets. spoilt-unmet (rw (c .before) at (meets 0 (c .lend 0xff) (omega arith) (c .accepted 0xff)));
+      }
+
+pub encode-no-idle : NoIdleEncoder encoding
+unfolding rows
+encode-no-idle = no-idle-encoder (record { lend = λ x. x ∷ zeros 15; accepted = λ x. refl; brings = λ x. refl; before = refl })
+
+pub copy-no-idle : NoIdleEncoder copyEncoding
+unfolding rows
+copy-no-idle = no-idle-encoder (record { lend = λ x. record { message = message x; codeword = spoilt }; accepted = λ x. refl; brings = λ x. refl; before = refl })
+
+-- ---- decoders: calls that are accepted, and bring a given word
+record Receives {B : Type 0} (calls : Receiving B) (definition : Decoder B) : Type 0 where
+  lend : List ℕ → B
+  accepted : (s : List ℕ) → length s ≡ 16 → calls .answer 0 (lend s) ≡ 0
+  brings : (s : List ℕ) → Bytes s → calls .word (lend s) ≡ s
+  before : (s : List ℕ) → calls .output (lend s) ≡ spoilt
+  misses : definition 0 (lend spoilt) 1 .report .success ≡ false
+  moves : definition 0 (lend spoilt) 1 .output ≡ definition 0 (lend spoilt) 2 .output → ⊥
+
+module _ {B : Type 0} {calls : Receiving B} {definition : Decoder B} (c : Receives calls definition) where
+  frame-accepted : (x : ℕ) → x < 256 → calls .answer 0 (c .lend (frame x)) ≡ 0
+  unfolding rows
+  frame-accepted x h = c .accepted (frame x) (sent-length (frame-sent x h))
+
+  -- a frame that comes back
+  returned : (d : Decoder B) → FrameReturns calls d → (x : ℕ) → x < 256 → d 0 (c .lend (frame x)) 1 ≡ told (ending true 0) (frame x)
+  returned d r x h =
+      let e = c .brings (frame x) (sent-bytes (frame-sent x h)) in
+      r 0 (c .lend (frame x)) 1 (omega arith) (rw e (frame-sent x h)) (frame-accepted x h) (omega arith) ∙ rw e
+
+  spoilt-accepted : calls .answer 0 (c .lend spoilt) ≡ 0
+  spoilt-accepted = c .accepted spoilt refl
+
+  no-idle-decoder : FrameReturns calls definition → CountsPasses calls definition → NoIdleDecoder calls definition
+  no-idle-decoder returns counts =
+      let b = c .lend spoilt in
+      record {
+        refusing = λ number low table. omega (arith, low 0 b, table 0 b 1 ∙ spoilt-accepted);
+        failing = λ d r. let z : _≡_ {A = ℕ} 0 1 = cc (ap (λ (x : Told). x .report .success) (returned (fails d) r 0 (omega arith))) in omega arith;
+        one-answer = λ x r. frames-apart (ap (λ (y : Told). y .output) (sym (returned (decodesAlike x) r 0 (omega arith)) ∙ returned (decodesAlike x) r 0xff (omega arith)));
+        resting = λ says true-said meets. spoilt-unmet (rw (c .before spoilt) at (meets 0 b 1 (true-said 0 b 1 spoilt-accepted (omega arith))));
+        copying = λ says true-said meets.
+            spoilt-unmet (rw (c .brings spoilt (bytes-then 0xff 15 (omega arith))) at (meets 0 b 1 (true-said 0 b 1 spoilt-accepted (omega arith))));
+        resting-frame = λ says r.
+            let e : spoilt ≡ frame 0 = sym (c .before (frame 0)) ∙ ap (λ (x : Told). x .output) (returned (rests calls says) r 0 (omega arith)) in
+            spoilt-unmet (rw e (sent-meets (frame-sent 0 (omega arith)) (omega arith)));
+        copying-output = λ says same. c .moves (sym (same 0 b 1) ∙ same 0 b 2);
+        working-once = λ d same. c .moves (sym (same 0 b 1) ∙ same 0 b 2);
+        made-up = made-up calls;
+        one-number = λ n counts′.
+            let is = made-up calls definition (λ code b limit. n) counts counts′ in
+            let none : n ≡ 0 =
+            is 0 (c .lend (frame 0)) 1 (frame-accepted 0 (omega arith)) ∙ ap (λ (x : Told). x .report .iters) (returned definition returns 0 (omega arith)) in
+            let one : n ≡ 1 = is 0 b 1 spoilt-accepted ∙ counts 0 b 1 spoilt-accepted .spent (c .misses) in
+            omega arith;
+      }
+
+-- of bit flipping and of min-sum
+flip-receives : Receives bitFlipping bitFlip
+unfolding rows
+flip-receives =
+    record {
+      lend = hardLent;
+      accepted = λ s e. rw e;
+      brings = λ s bytes. refl;
+      before = λ s. refl;
+      misses = flip-misses;
+      moves = flip-moves;
+    }
+
+soft-receives : Receives (minSumming i8) (minSum i8)
+soft-receives =
+    record {
+      lend = softLent;
+      accepted = soft-accepted;
+      brings = λ s bytes. llrs-hard-i8 s (bytes-all s bytes);
+      before = λ s. refl;
+      misses = soft-misses;
+      moves = soft-moves;
+    }
+
+pub bit-flip-no-idle : NoIdleDecoder bitFlipping bitFlip
+bit-flip-no-idle = no-idle-decoder flip-receives bit-flip-returns bit-flip-counts
+
+pub min-sum-no-idle : NoIdleDecoder (minSumming i8) (minSum i8)
+min-sum-no-idle = no-idle-decoder soft-receives (min-sum-returns i8 (steady 127)) (min-sum-counts i8)

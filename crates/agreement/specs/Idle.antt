@@ -1,0 +1,89 @@
+-- "Try these idle versions": each as what its calls leave, and the demand that shuts it out. Assumes nothing.
+use mathlib.Core.Bool.{true, false}
+use mathlib.Core.Path.{_≡_}
+use Prim.Native.Nat.{ℕ, min, _≤_}
+use Rattle.report.specs.declared.Report.{Report}
+use Rattle.report.specs.Report.{refusal}
+use Rattle.encoder.specs.Outcomes.{Encoded, encoded}
+use Rattle.agreement.specs.Demands.{Encoder, Sending, EncodesByTable, EncodesData, FrameMeets, Told, told, Decoder, Receiving, DecodesByTable, SuccessMeets, FrameReturns, CountsPasses, DecodesAs}
+
+-- what a decoder says, by code, the buffers that it is lent and the limit
+abbrev pub Reports : Type 0 → Type 0
+Reports B = ℕ → B → ℕ → Report
+
+module _ {B : Type 0} where
+  -- ---- encoders. "Doing nothing": the codeword as before, whatever it answers
+  abbrev pub restsEncoding : Sending B → (ℕ → B → ℕ) → Encoder B
+  restsEncoding calls answers code b = encoded (answers code b) (calls .codeword b)
+
+  -- "One fixed answer"
+  abbrev pub encodesAlike : Encoded → Encoder B
+  encodesAlike x code b = x
+
+  -- ---- decoders. "Doing nothing": the output as before, whatever it says
+  abbrev pub rests : Receiving B → Reports B → Decoder B
+  rests calls says code b limit = told (says code b limit) (calls .output b)
+
+  -- "Always refusing", by some number
+  abbrev pub refuses : Receiving B → (ℕ → B → ℕ) → Decoder B
+  refuses calls number = rests calls (λ code b limit. refusal (number code b))
+
+  -- "always saying false": any decoder, whose every success is struck out
+  abbrev pub fails : Decoder B → Decoder B
+  fails d code b limit =
+      let x = d code b limit in
+      told (record { answer = x .report .answer; success = false; iters = x .report .iters }) (x .output)
+
+  -- "One fixed answer"
+  abbrev pub decodesAlike : Told → Decoder B
+  decodesAlike x code b limit = x
+
+  -- "copying input to output", whatever it says
+  abbrev pub copies : Receiving B → Reports B → Decoder B
+  copies calls says code b limit = told (says code b limit) (calls .word b)
+
+  -- "All the work in pass 0, later passes for show": any decoder, whose output is that of one pass at most
+  abbrev pub worksOnce : Decoder B → Decoder B
+  worksOnce d code b limit = told (d code b limit .report) (d code b (min limit 1) .output)
+
+  -- "A made-up iteration number": any decoder, with another number
+  abbrev pub renumbered : (ℕ → B → ℕ → ℕ) → Decoder B → Decoder B
+  renumbered number d code b limit =
+      let x = d code b limit in
+      told (record { answer = x .report .answer; success = x .report .success; iters = number code b limit }) (x .output)
+
+  -- it says true of every call that is accepted, with a limit of at least 1
+  abbrev pub SaysTrue : Receiving B → Reports B → Type 0
+  SaysTrue calls says = (code : ℕ) (b : B) (limit : ℕ) → calls .answer code b ≡ 0 → 1 ≤ limit → says code b limit .success ≡ true
+
+-- ---- no idle encoder, of those that are called so, meets the demands
+pub record NoIdleEncoder {B : Type 0} (calls : Sending B) : Type 0 where
+  -- "Always refusing .. : the refusal table"
+  pub refusing : (number : ℕ → B → ℕ) → ((code : ℕ) (b : B) → 1 ≤ number code b) → EncodesByTable calls (restsEncoding calls number) → ⊥
+  -- "One fixed answer: demand 2's encoder."
+  pub one-answer : (x : Encoded) → EncodesData calls (encodesAlike x) → ⊥
+  -- "Doing nothing": demand 2's encoder, and demand 3, since every encoded frame meets the equations
+  pub resting : (answers : ℕ → B → ℕ) → EncodesData calls (restsEncoding calls answers) → ⊥
+  pub resting-frame : (answers : ℕ → B → ℕ) → FrameMeets calls (restsEncoding calls answers) → ⊥
+
+-- ---- no idle decoder, of those that are called so and whose output is to be a definition's, meets the demands
+pub record NoIdleDecoder {B : Type 0} (calls : Receiving B) (definition : Decoder B) : Type 0 where
+  -- "Always refusing, or always saying false: the refusal table and demand 3's unchanged frame shut them out."
+  pub refusing : (number : ℕ → B → ℕ) → ((code : ℕ) (b : B) → 1 ≤ number code b) → DecodesByTable calls (refuses calls number) → ⊥
+  pub failing : (d : Decoder B) → FrameReturns calls (fails d) → ⊥
+  -- "One fixed answer": two frames come back, each as it was
+  pub one-answer : (x : Told) → FrameReturns calls (decodesAlike x) → ⊥
+  -- "Doing nothing, or copying input to output with true: demand 3, since a success meets every equation."
+  pub resting : (says : Reports B) → SaysTrue calls says → SuccessMeets calls (rests calls says) → ⊥
+  pub copying : (says : Reports B) → SaysTrue calls says → SuccessMeets calls (copies calls says) → ⊥
+  -- doing nothing, whatever it says: an unchanged frame comes back
+  pub resting-frame : (says : Reports B) → FrameReturns calls (rests calls says) → ⊥
+  -- copying input to output, whatever it says: the output is the definition's
+  pub copying-output : (says : Reports B) → DecodesAs definition (copies calls says) → ⊥
+  -- "All the work in pass 0, later passes for show: demand 2 fixes the output for each limit."
+  pub working-once : (d : Decoder B) → DecodesAs definition (worksOnce d) → ⊥
+  -- "A made-up iteration number: it must be the pass at which the equations first hold": it is the number of any decoder that counts its passes
+  pub made-up : (d : Decoder B) (number : ℕ → B → ℕ → ℕ) → CountsPasses calls d → CountsPasses calls (renumbered number d)
+      → (code : ℕ) (b : B) (limit : ℕ) → calls .answer code b ≡ 0 → number code b limit ≡ d code b limit .report .iters
+  -- so no one number will do
+  pub one-number : (n : ℕ) → CountsPasses calls (renumbered (λ code b limit. n) definition) → ⊥

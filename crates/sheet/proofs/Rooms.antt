@@ -1,0 +1,51 @@
+-- The buffers of the operations serve every code, and are lent as zeros. Assumes nothing.
+use mathlib.Core.List.{List, [], _∷_}
+use mathlib.Core.Path.{_≡_, refl, sym, ap}
+use Prim.Native.Nat.{ℕ, zero, suc, _/_, _≤_}
+use native.Mathlib.Nat.{le-of-suc-le-suc}
+use native.Mathlib.Omega.{arith}
+use lib.Dec.{T, leb, leb→le}
+use lib.ListN.{length, take, replicate, length-replicate}
+use lib.Seq.{length-take-le}
+use Rattle.maths.specs.Tests.{all}
+use Rattle.maths.proofs.Tests.{all-anywhere}
+use Rattle.codes.specs.declared.CodeParams.{CodeParams}
+use Rattle.codes.specs.Codes.{rows, row, rowOf}
+
+-- a length of every row, and of the zeros that an unknown code has, is at most so much
+below : (length : CodeParams → ℕ) (most : ℕ) → T (leb (length (row 0 0 0 0 0 0)) most) → T (all (λ r. leb (length r) most) rows)
+    → (code : ℕ) → length (rowOf code) ≤ most
+below length most z h code = leb→le (length (rowOf code)) most (all-anywhere (λ r. leb (length r) most) (row 0 0 0 0 0 0) z rows h code)
+
+pub codeword-room : (code : ℕ) → rowOf code .n / 8 ≤ 640
+unfolding rows
+codeword-room = below (λ r. r .n / 8) 640 tt tt
+
+pub llrs-room : (code : ℕ) → rowOf code .n ≤ 5120
+unfolding rows
+llrs-room = below (λ r. r .n) 5120 tt tt
+
+pub output-room : (code : ℕ) → rowOf code .«output_len» ≤ 704
+unfolding rows
+output-room = below (λ r. r .«output_len») 704 tt tt
+
+pub flip-room : (code : ℕ) → rowOf code .«decode_bf_working_len» ≤ 5632
+unfolding rows
+flip-room = below (λ r. r .«decode_bf_working_len») 5632 tt tt
+
+pub soft-room : (code : ℕ) → rowOf code .«decode_ms_working_len» ≤ 48640
+unfolding rows
+soft-room = below (λ r. r .«decode_ms_working_len») 48640 tt tt
+
+pub signs-room : (code : ℕ) → rowOf code .«decode_ms_working_u8_len» ≤ 192
+unfolding rows
+signs-room = below (λ r. r .«decode_ms_working_u8_len») 192 tt tt
+
+-- the front of a buffer that is full of one value
+pub lent : {A : Type 0} (k : ℕ) (x : A) {n : ℕ} → n ≤ k → n ≡ length (take n (replicate k x))
+lent k x {n} h = sym (length-take-le n (replicate k x) (rw (length-replicate k x) h))
+
+pub lent-is : {A : Type 0} (k : ℕ) (x : A) (n : ℕ) → n ≤ k → take n (replicate k x) ≡ replicate n x
+lent-is k x zero h = refl
+lent-is zero x (suc n) h = absurd (omega arith)
+lent-is (suc k) x (suc n) h = ap (λ (xs : List _). x ∷ xs) (lent-is k x n (le-of-suc-le-suc h))

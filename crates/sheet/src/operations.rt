@@ -1,0 +1,115 @@
+// The three operations of a sheet, each with the buffers that its code asks for.
+ghost use mathlib.Core.Path.{_≡_};
+ghost use Prim.Native.Nat.{_≤_};
+ghost use lib.ListN.{length};
+ghost use lib.IntN.{pos, negsuc};
+ghost use Rattle.encoder.specs.Outcomes.{copyEncodeOutcome};
+ghost use Rattle.bit_flip.specs.Outcome.{outcome};
+ghost use Rattle.min_sum.specs.Outcomes.{toLlrsOutcome};
+ghost use Rattle.sheet.specs.Printing.{most, answerOf};
+ghost use Rattle.sheet.specs.Sheet.{reported, encodedText, flippedText, softFrom, encodeSheet, bfSheet, msSheet};
+use crate::print::Answer;
+use crate::print::print;
+use codes::ACCEPTED;
+use codes::params;
+use report::Report;
+use report::finished;
+use report::refused;
+
+// A refusal prints no output byte.
+pub(crate) fn print_report(r: Report, output: &[u8]) -> Answer
+    requires { ⌜ length (now output) ≤ most ⌝ }
+    ensures { λ a. ⌜ a ≡ answerOf (reported r (now (output .entry))) ⌝ }
+{
+    if r.answer != ACCEPTED {
+        return print(r.answer, r.success, r.iters, &output[..0]);
+    }
+    print(r.answer, r.success, r.iters, output)
+}
+
+fn encode_into(code: usize, frame: &[u8], codeword: &mut [u8]) -> Answer
+    requires { ⌜ length (now codeword) ≤ most ⌝ }
+    ensures { λ a. ⌜ a ≡ answerOf (encodedText (copyEncodeOutcome code (now (frame .entry)) (now (codeword .entry)))) ⌝ }
+{
+    let answer = encoder::copy_encode(code, frame, codeword);
+    if answer != ACCEPTED {
+        return print_report(refused(answer), codeword);
+    }
+    print_report(finished(true, 0), codeword)
+}
+
+pub(crate) fn encode_frame(code: usize, frame: &[u8]) -> Answer
+    ensures { λ a. ⌜ a ≡ answerOf (encodeSheet code (now (frame .entry))) ⌝ }
+{
+    let mut codeword = [0u8; 640];
+    let n = params(code).row.n / 8;
+    encode_into(code, frame, &mut codeword[..n])
+}
+
+fn flip_into(
+    code: usize,
+    frame: &[u8],
+    output: &mut [u8],
+    working: &mut [u8],
+    maxiters: usize,
+) -> Answer
+    requires { ⌜ length (now output) ≤ most ⌝ }
+    ensures { λ a. ⌜ a ≡ answerOf (flippedText (outcome code (now (frame .entry)) (now (output .entry)) (now (working .entry)) maxiters)) ⌝ }
+{
+    let r = bit_flip::decode_bf(code, frame, output, working, maxiters);
+    print_report(r, output)
+}
+
+pub(crate) fn flip_frame(code: usize, frame: &[u8], maxiters: usize) -> Answer
+    ensures { λ a. ⌜ a ≡ answerOf (bfSheet code maxiters (now (frame .entry))) ⌝ }
+{
+    let mut output = [0u8; 704];
+    let mut working = [0u8; 5632];
+    let row = params(code).row;
+    let o = row.output_len;
+    let w = row.decode_bf_working_len;
+    flip_into(code, frame, &mut output[..o], &mut working[..w], maxiters)
+}
+
+fn soft_into(
+    code: usize,
+    frame: &[u8],
+    llrs: &mut [i8],
+    output: &mut [u8],
+    working: &mut [i8],
+    signs: &mut [u8],
+    maxiters: usize,
+) -> Answer
+    requires { ⌜ length (now output) ≤ most ⌝ }
+    ensures { λ a. ⌜ a ≡ answerOf (softFrom code maxiters (toLlrsOutcome (negsuc 0) (pos 1) code (now (frame .entry)) (now (llrs .entry))) (now (output .entry)) (now (working .entry)) (now (signs .entry))) ⌝ }
+{
+    let answer = min_sum::llrs::hard_to_llrs_i8(code, frame, llrs);
+    if answer != ACCEPTED {
+        return print_report(refused(answer), output);
+    }
+    let r = min_sum::decode_ms_i8(code, llrs, output, working, signs, maxiters);
+    print_report(r, output)
+}
+
+pub(crate) fn soft_frame(code: usize, frame: &[u8], maxiters: usize) -> Answer
+    ensures { λ a. ⌜ a ≡ answerOf (msSheet code maxiters (now (frame .entry))) ⌝ }
+{
+    let mut llrs = [0i8; 5120];
+    let mut output = [0u8; 704];
+    let mut working = [0i8; 48640];
+    let mut signs = [0u8; 192];
+    let row = params(code).row;
+    let n = row.n;
+    let o = row.output_len;
+    let w = row.decode_ms_working_len;
+    let s = row.decode_ms_working_u8_len;
+    soft_into(
+        code,
+        frame,
+        &mut llrs[..n],
+        &mut output[..o],
+        &mut working[..w],
+        &mut signs[..s],
+        maxiters,
+    )
+}
