@@ -4,7 +4,7 @@ use mathlib.Core.List.{List}
 use mathlib.Core.Path.{_≡_, refl, sym, ap, _∙_}
 use Prim.Native.Nat.{ℕ}
 use lib.IntN.{ℤ, pos, negsuc}
-use lib.ListN.{length, getD, replicate}
+use lib.ListN.{length, getD, take, replicate}
 use Rattle.maths.specs.Lists.{largestOf}
 use Rattle.bits.specs.Packed.{unpacked, packed}
 use Rattle.codes.specs.declared.ParamsAnswer.{ParamsAnswer}
@@ -18,7 +18,7 @@ use Rattle.codes.specs.declared.runs.EdgeRun.{EdgeRun}
 use Rattle.codes.specs.declared.meets.Met.{Met}
 use Rattle.codes.specs.Codes.{paramsOf}
 use Rattle.codes.specs.Walk.{begunOf, stepOf}
-use Rattle.codes.specs.Runs.{Run, run, runsOf, readRuns, within, laid}
+use Rattle.codes.specs.Runs.{Run, run, runs, runsOf, readRuns, within, laid}
 use Rattle.codes.specs.Equations.{wordOf, syndromeOf, metOf}
 use Rattle.report.specs.declared.Report.{Report}
 use Rattle.report.specs.Report.{refusal, ending}
@@ -26,6 +26,13 @@ use Rattle.encoder.specs.Outcomes.{Encoded, encoded, encodeOutcome, copyEncodeO
 use Rattle.bit_flip.specs.Outcome as flip
 use Rattle.min_sum.specs.Confidence.{i8}
 use Rattle.min_sum.specs.Outcomes.{Outcome, left, decodeOutcome, Written, written, toLlrsOutcome, toHardOutcome}
+use Rattle.labrador_ldpc.specs.Doors.{Row, row, paramsOutcome, Hard, hard, hardDoor, Soft, soft, softDoor}
+use Rattle.sheet.specs.declared.read.Reading.{Reading}
+use Rattle.sheet.specs.declared.print.Answer.{Answer}
+use Rattle.sheet.specs.Reading.{readOf}
+use Rattle.sheet.specs.Printing.{printed, most, answerOf}
+use Rattle.sheet.specs.Sheet.{sheetOf}
+use Rattle.measure.specs.Sum.{sumOf}
 
 -- what two outcomes both equal makes them equal
 one : {A : Type 0} {x y z : A} → x ≡ z → y ≡ z → x ≡ y
@@ -127,3 +134,71 @@ hard-to-llrs-i8-one code input llrs p q = written-parts (one p q)
 pub llrs-to-hard-i8-one : (code : ℕ) (llrs : List ℤ) (output : List ℕ) {a a′ : ℕ} {s s′ : List ℕ}
     → written a s ≡ toHardOutcome i8 code llrs output → written a′ s′ ≡ toHardOutcome i8 code llrs output → (a ≡ a′) × (s ≡ s′)
 llrs-to-hard-i8-one code llrs output p q = written-parts (one p q)
+
+-- ---- labrador_ldpc: the answer, success and iterations, and every buffer that is written
+pub ldpc-params-one : (code : ℕ) (to : List ℕ) {a a′ : ℕ} {s s′ : List ℕ}
+    → row a s ≡ paramsOutcome code to → row a′ s′ ≡ paramsOutcome code to → (a ≡ a′) × (s ≡ s′)
+ldpc-params-one code to p q =
+    let e = one p q in
+    (ap (λ (x : Row). x .answer) e, ap (λ (x : Row). x .numbers) e)
+
+pub ldpc-encode-one : (code : ℕ) (codeword : List ℕ) {a a′ : ℕ} {s s′ : List ℕ}
+    → encoded a s ≡ encodeOutcome code codeword → encoded a′ s′ ≡ encodeOutcome code codeword → (a ≡ a′) × (s ≡ s′)
+ldpc-encode-one = encode-one
+
+pub ldpc-copy-encode-one : (code : ℕ) (message codeword : List ℕ) {a a′ : ℕ} {s s′ : List ℕ}
+    → encoded a s ≡ copyEncodeOutcome code message codeword → encoded a′ s′ ≡ copyEncodeOutcome code message codeword → (a ≡ a′) × (s ≡ s′)
+ldpc-copy-encode-one = copy-encode-one
+
+pub ldpc-decode-bf-one : (code : ℕ) (input output working : List ℕ) (maxiters : ℕ) {a a′ b b′ n n′ : ℕ} {o o′ w w′ : List ℕ}
+    → hard a b n o w ≡ hardDoor (flip.outcome code input output working maxiters) → hard a′ b′ n′ o′ w′ ≡ hardDoor (flip.outcome code input output working maxiters)
+    → (a ≡ a′) × (b ≡ b′) × (n ≡ n′) × (o ≡ o′) × (w ≡ w′)
+ldpc-decode-bf-one code input output working maxiters p q =
+    let e = one p q in (
+      ap (λ (x : Hard). x .answer) e,
+      ap (λ (x : Hard). x .success) e,
+      ap (λ (x : Hard). x .iters) e,
+      ap (λ (x : Hard). x .output) e,
+      ap (λ (x : Hard). x .working) e,
+    )
+
+pub ldpc-decode-ms-i8-one : (code : ℕ) (llrs : List ℤ) (output : List ℕ) (working : List ℤ) (signs : List ℕ) (maxiters : ℕ)
+    {a a′ b b′ n n′ : ℕ} {o o′ : List ℕ} {w w′ : List ℤ} {s s′ : List ℕ}
+    → soft a b n o w s ≡ softDoor (decodeOutcome i8 code llrs output working signs maxiters)
+    → soft a′ b′ n′ o′ w′ s′ ≡ softDoor (decodeOutcome i8 code llrs output working signs maxiters)
+    → (a ≡ a′) × (b ≡ b′) × (n ≡ n′) × (o ≡ o′) × (w ≡ w′) × (s ≡ s′)
+ldpc-decode-ms-i8-one code llrs output working signs maxiters p q =
+    let e = one p q in (
+      ap (λ (x : Soft). x .answer) e,
+      ap (λ (x : Soft). x .success) e,
+      ap (λ (x : Soft). x .iters) e,
+      ap (λ (x : Soft). x .output) e,
+      ap (λ (x : Soft). x .working) e,
+      ap (λ (x : Soft). x .signs) e,
+    )
+
+pub ldpc-hard-to-llrs-i8-one : (code : ℕ) (input : List ℕ) (llrs : List ℤ) {a a′ : ℕ} {s s′ : List ℤ}
+    → written a s ≡ toLlrsOutcome (negsuc 0) (pos 1) code input llrs → written a′ s′ ≡ toLlrsOutcome (negsuc 0) (pos 1) code input llrs → (a ≡ a′) × (s ≡ s′)
+ldpc-hard-to-llrs-i8-one = hard-to-llrs-i8-one
+
+pub ldpc-llrs-to-hard-i8-one : (code : ℕ) (llrs : List ℤ) (output : List ℕ) {a a′ : ℕ} {s s′ : List ℕ}
+    → written a s ≡ toHardOutcome i8 code llrs output → written a′ s′ ≡ toHardOutcome i8 code llrs output → (a ≡ a′) × (s ≡ s′)
+ldpc-llrs-to-hard-i8-one = llrs-to-hard-i8-one
+
+-- ---- sheet
+pub read-one : (text : List ℕ) {x y : Reading} → x ≡ readOf text → y ≡ readOf text → x ≡ y
+read-one text = one
+
+pub print-one : (answer : ℕ) (success : Bool) (iters : ℕ) (output : List ℕ) {x y : Answer}
+    → x ≡ answerOf (printed answer success iters (take most output)) → y ≡ answerOf (printed answer success iters (take most output)) → x ≡ y
+print-one answer success iters output = one
+
+pub sheet-one : (text : List ℕ) {x y : Answer} → x ≡ answerOf (sheetOf text) → y ≡ answerOf (sheetOf text) → x ≡ y
+sheet-one text = one
+
+-- ---- measure
+pub measure-walk-one : (code : ℕ) {x y : ℕ} → x ≡ sumOf code → y ≡ sumOf code → x ≡ y
+measure-walk-one code = one
+
+pub measure-runs-one : (code : ℕ) {x y : ℕ} → x ≡ length (runs code) → y ≡ length (runs code) → x ≡ y
+measure-runs-one code = one

@@ -2,13 +2,14 @@
 use mathlib.Core.Bool.{Bool, true, false}
 use mathlib.Core.List.{List, [], _∷_, _++_}
 use mathlib.Core.Path.{_≡_, refl, sym, _∙_}
-use Prim.Native.Nat.{ℕ, suc, _+_, _*_, _/_, _%_, _^_, _≤_, _<_}
+use Prim.Native.Nat.{ℕ, suc, _+_, _-_, _*_, _/_, _%_, _^_, _≤_, _<_}
 use native.Mathlib.Nat.{zero-add}
 use native.Mathlib.Numerals.{add-one}
 use native.Mathlib.Omega.{arith}
 use lib.ListN.{length, getD, set, drop, replicate, length-append, drop-of-length-le}
 use lib.Seq.{sets}
 use Rattle.maths.proofs.Stores.{sets-append, sets-replicate}
+use Rattle.sheet.specs.declared.print.Answer.{Answer}
 use Rattle.sheet.specs.Text.{newline, glyph, decimal, hex, line}
 use Rattle.sheet.specs.Reading.{valueOf, unhex}
 use Rattle.sheet.specs.Printing.{flag, room, answerOf, Written}
@@ -75,3 +76,7 @@ pub answered : (text : List ℕ) {new : List ℕ} {n : ℕ} → n ≤ room → W
 answered text h p =
     let e = p .is ∙ sets-replicate text room 0 (omega (arith, p .count)) in
     rw (e, p .count, zero-add (length text))
+
+-- the text of an answer lies within its bytes
+pub answer-fits : {a : Answer} (text : List ℕ) → a ≡ answerOf text → a .len ≤ length (a .bytes)
+answer-fits text e = rw e (omega (arith, length-append text (replicate {A = ℕ} (room - length text) 0)))
