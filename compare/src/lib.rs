@@ -3,6 +3,7 @@ use labrador_ldpc::LDPCCode;
 
 #[cfg(feature = "archive")]
 pub mod archive;
+pub mod sheet;
 
 /// The codes by number.
 pub const CODES: [LDPCCode; 7] = [
@@ -14,7 +15,6 @@ pub const CODES: [LDPCCode; 7] = [
     LDPCCode::TM2048,
     LDPCCode::TM5120,
 ];
-
 
 /// A generator of numbers that are the same in every run.
 pub struct Dice(u64);

@@ -2,8 +2,9 @@
 //!
 //! A case is five bytes, what is read, and what must be written. The five: the operation (1 encode, 2 bit flipping,
 //! 3 min-sum on i8, 4 hard_to_llrs, 5 llrs_to_hard), the code, the limit, success and iterations. A confidence is a byte,
-//! its value modulo 256. The lengths follow from the operation and the code. Five zeros end the list.
-use compare::{confidences, received, Dice, CODES};
+//! its value modulo 256. The lengths follow from the operation and the code. A bench sheet is operation 6: its head has the
+//! lengths of the text and of the answer, low byte first. Five zeros end the list.
+use compare::{confidences, flip, frame, received, sheet, Dice, CODES};
 use labrador_ldpc::LDPCCode;
 use std::io::{BufWriter, Write};
 
@@ -67,6 +68,97 @@ fn decoded<W: Write>(list: &mut List<W>, i: usize, code: LDPCCode, dice: &mut Di
     Ok(())
 }
 
+fn hex(bytes: &[u8]) -> String {
+    bytes.iter().map(|b| format!("{b:02x}")).collect()
+}
+
+fn text(code: usize, op: &str, maxiters: &str, frame: &str) -> String {
+    format!("code={code}\nop={op}\nmaxiters={maxiters}\nframe={frame}\n")
+}
+
+/// Sheets of every code and operation, with frames of right and of wrong lengths.
+fn sheets() -> Vec<String> {
+    let mut all = Vec::new();
+    let mut dice = Dice::new(2000);
+    for (i, &code) in CODES.iter().enumerate() {
+        let data: Vec<u8> = frame(code, &mut dice)[..code.k() / 8].to_vec();
+        all.extend(["0", "7"].map(|most| text(i, "encode", most, &hex(&data))));
+        for (flips, most) in [(0, "0"), (0, "1"), (0, "4294967295"), (1, "20"), (3, "20"), (code.n() / 4, "3")] {
+            let mut word = frame(code, &mut dice);
+            flip(&mut word, &mut dice, flips);
+            all.extend(["bf", "ms"].map(|op| text(i, op, most, &hex(&word))));
+        }
+        for op in ["encode", "bf", "ms"] {
+            let right = if op == "encode" { code.k() / 8 } else { code.n() / 8 };
+            all.extend([0, 1, right - 1, right + 1].map(|len| text(i, op, "1", &"5a".repeat(len))));
+        }
+    }
+    for code in 7..10 {
+        all.extend(["encode", "bf", "ms"].map(|op| text(code, op, "1", "")));
+        all.push(text(code, "bf", "1", &"00".repeat(16)));
+    }
+    // 8,192 bytes that are well formed
+    all.push(text(0, "bf", "10", &"0".repeat(8160)));
+    all
+}
+
+/// Texts that are no sheet.
+fn malformed() -> Vec<Vec<u8>> {
+    let zeros = "00".repeat(16);
+    let good = text(0, "bf", "1", &zeros);
+    let mut all: Vec<String> = ["", "00", "01", "+1", "-1", " 1", "1 ", "1x", "4294967296", "99999999999999999999", "0x1", "1e3"]
+        .iter()
+        .flat_map(|most| ["encode", "bf"].map(|op| text(0, op, most, &zeros)))
+        .collect();
+    all.push(text(0, "ms", &"9".repeat(3000), &zeros));
+    all.push(text(0, "ms", &("0".repeat(3000) + "1"), &zeros));
+    all.extend(["", "Bf", "BF", "b", "bff", "bf ", " bf", "encode\r", "decode"].map(|op| text(0, op, "1", &zeros)));
+    all.extend(["0", "000", "0A", "0g", "0 0 ", "0x00", "/0", ":0", "`0", "g0", "-1", "00\r"].map(|frame| text(0, "bf", "1", frame)));
+    all.extend(["", "10", "00", "a", "-", " 0", "0 ", "/", ":"].map(|code| good.replace("code=0", &format!("code={code}"))));
+    for key in ["code=", "op=", "maxiters=", "frame="] {
+        all.push(good.replace(key, &key.to_uppercase()));
+        all.push(good.replace(key, &key.replace('=', " = ")));
+        all.push(good.replace(key, &key.replace('=', "")));
+        all.push(good.replace(key, &format!("{key}=")));
+        all.push(good.replace(key, &format!(" {key}")));
+        all.push(good.split_inclusive('\n').filter(|line| !line.starts_with(key)).collect());
+        all.push(good.split_inclusive('\n').flat_map(|line| if line.starts_with(key) { vec![line, line] } else { vec![line] }).collect());
+    }
+    all.push(String::new());
+    all.push("\n".to_string());
+    all.push("\n\n\n\n".to_string());
+    all.push(good.trim_end().to_string());
+    all.push(good.clone() + "\n");
+    all.push(good.clone() + "x");
+    all.push("\n".to_string() + &good);
+    all.push(good.replace('\n', "\r\n"));
+    all.push(good.replace('\n', "\n\n"));
+    all.push(good.replace('\n', "\0"));
+    all.push(good.split_inclusive('\n').rev().collect());
+    all.push(text(0, "bf", "100", &"0".repeat(8160)));
+    all.push("code=0\n".repeat(1171)[..8193].to_string());
+    let mut all: Vec<Vec<u8>> = all.into_iter().map(String::into_bytes).collect();
+    all.extend([0, 0x80, 0xff].map(|byte| {
+        let mut text = good.clone().into_bytes();
+        text[40] = byte;
+        text
+    }));
+    all
+}
+
+fn sheet_cases<W: Write>(list: &mut List<W>) -> std::io::Result<()> {
+    let good = sheets();
+    let bad = malformed();
+    assert!(good.iter().all(|text| !sheet::answer(text.as_bytes()).starts_with("answer=9")));
+    assert!(bad.iter().all(|text| sheet::answer(text).starts_with("answer=9")));
+    for text in good.into_iter().map(String::into_bytes).chain(bad) {
+        let answer = sheet::answer(&text);
+        let (t, a) = (text.len(), answer.len());
+        list.put([6, t % 256, t / 256, a % 256, a / 256], &text, answer.as_bytes())?;
+    }
+    Ok(())
+}
+
 fn main() -> std::io::Result<()> {
     let mut list = List { out: BufWriter::new(std::io::stdout().lock()), cases: 0 };
     for (i, &code) in CODES.iter().enumerate() {
@@ -77,6 +169,7 @@ fn main() -> std::io::Result<()> {
         decoded(&mut list, i, code, &mut dice, 2)?;
         decoded(&mut list, i, code, &mut dice, 3)?;
     }
+    sheet_cases(&mut list)?;
     list.out.write_all(&[0; 5])?;
     list.out.flush()?;
     eprintln!("{} cases", list.cases);

@@ -1,2 +1,1 @@
 pub mod Confidence
-pub mod Parts

@@ -1,5 +1,6 @@
 // The list: the head of a case, and how long what it reads and what it must write are.
-ghost use Prim.Native.Nat.{_≤_};
+ghost use mathlib.Core.Path.{_≡_};
+ghost use Prim.Native.Nat.{_+_, _*_, _≤_};
 use codes::CodeParams;
 
 pub fn least(a: usize, b: usize) -> usize
@@ -13,18 +14,28 @@ pub fn filled(fd: i32, buf: &mut [u8]) -> bool {
     io::read_full(fd, buf) == buf.len()
 }
 
-// The head of a case: its operation (1 encoders, 2 bit flipping, 3 min-sum, 4 hard_to_llrs, 5 llrs_to_hard), the code, the
-// limit, and what the Rust reported.
+// The head of a case: its operation (1 encoders, 2 bit flipping, 3 min-sum, 4 hard_to_llrs, 5 llrs_to_hard, 6 a bench sheet),
+// the code, the limit, and what the Rust reported; of a sheet how long the text and the answer are.
 pub struct Case {
     pub op: u8,
     pub code: usize,
     pub most: usize,
     pub success: bool,
     pub iters: usize,
+    pub text: usize,
+    pub answer: usize,
 }
 
-pub fn wide(x: u8) -> usize {
+pub fn wide(x: u8) -> usize
+    ensures { λ r. ⌜ r ≡ x ⌝ }
+{
     x as usize
+}
+
+fn joined(low: u8, high: u8) -> usize
+    ensures { λ r. ⌜ r ≡ low + 256 * high ⌝ }
+{
+    low as usize + 256 * (high as usize)
 }
 
 pub fn head(fd: i32) -> Case {
@@ -36,21 +47,27 @@ pub fn head(fd: i32) -> Case {
         most: wide(bytes[2]),
         success: bytes[3] == 1,
         iters: wide(bytes[4]),
+        text: joined(bytes[1], bytes[2]),
+        answer: joined(bytes[3], bytes[4]),
     }
 }
 
-pub fn read_len(op: u8, row: CodeParams) -> usize {
+pub fn read_len(c: Case, row: CodeParams) -> usize {
+    let op = c.op;
     match op {
         1 => row.k / 8,
         2 | 4 => row.n / 8,
-        _ => row.n,
+        3 | 5 => row.n,
+        _ => c.text,
     }
 }
 
-pub fn written_len(op: u8, row: CodeParams) -> usize {
+pub fn written_len(c: Case, row: CodeParams) -> usize {
+    let op = c.op;
     match op {
         1 | 5 => row.n / 8,
         4 => row.n,
-        _ => row.output_len,
+        2 | 3 => row.output_len,
+        _ => c.answer,
     }
 }

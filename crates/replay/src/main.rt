@@ -14,6 +14,7 @@ use cases::written_len;
 use codes::CodeParams;
 use codes::params;
 use libc::STDOUT_FILENO;
+use operations::answers;
 use operations::bit_flipping;
 use operations::encoders;
 use operations::min_sum_i8;
@@ -42,17 +43,18 @@ fn run_case(
         3 => min_sum_i8(c, row, read, want, output),
         4 => to_llrs(c, read, want),
         5 => to_hard(c, read, want, output),
+        6 => answers(read, want),
         _ => false,
     }
 }
 
 fn agrees(fd: i32, c: Case) -> bool {
-    let mut read = [0u8; 5120];
+    let mut read = [0u8; 8193];
     let mut want = [0u8; 5120];
     let mut output = [0u8; 5120];
     let row = params(c.code).row;
-    let r = least(read_len(c.op, row), 5120);
-    let w = least(written_len(c.op, row), 5120);
+    let r = least(read_len(c, row), 8193);
+    let w = least(written_len(c, row), 5120);
     run_case(fd, c, row, &mut read[..r], &mut want[..w], &mut output[..w])
 }
 

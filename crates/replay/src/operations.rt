@@ -112,3 +112,10 @@ pub fn to_hard(c: Case, read: &[u8], want: &[u8], output: &mut [u8]) -> bool {
     let n = least(read.len(), 5120);
     to_hard_on(c, read, want, output, &mut llrs[..n])
 }
+
+pub fn answers(text: &[u8], want: &[u8]) -> bool {
+    let a = sheet::sheet(text);
+    let bytes = a.bytes;
+    let len = a.len;
+    check::same(&bytes[..len], want)
+}

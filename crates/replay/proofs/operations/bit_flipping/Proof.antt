@@ -1,5 +1,5 @@
 use Prim.Native.Nat.{ℕ}
-use Rattle.replay.proofs.Parts.{lent}
+use Rattle.sheet.proofs.Rooms.{lent}
 use borrow.Author.Needs.{needs}
 use Rattle.replay.proofs.operations.bit_flipping.Statement.{statement}
 use Rattle.replay.proofs.operations.bit_flipping.Tie as tie

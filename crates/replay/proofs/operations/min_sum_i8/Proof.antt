@@ -1,6 +1,6 @@
 use Prim.Native.Nat.{ℕ}
 use lib.IntN.{ℤ, pos}
-use Rattle.replay.proofs.Parts.{lent}
+use Rattle.sheet.proofs.Rooms.{lent}
 use borrow.Author.Needs.{needs}
 use Rattle.replay.proofs.operations.min_sum_i8.Statement.{statement}
 use Rattle.replay.proofs.operations.min_sum_i8.Tie as tie

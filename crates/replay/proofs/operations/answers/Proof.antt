@@ -1,0 +1,18 @@
+use mathlib.Core.Path.{sym}
+use denote.Ref.{now}
+use lib.Seq.{length-take-le}
+use Rattle.sheet.specs.Sheet.{sheetOf}
+use Rattle.sheet.proofs.Writes.{answer-fits}
+use borrow.Author.Needs.{needs}
+use Rattle.replay.proofs.operations.answers.Statement.{statement}
+use Rattle.replay.proofs.operations.answers.Tie as tie
+
+pub answers-spec : {M : Type 1} → statement M
+answers-spec =
+    tie.close
+    (tie.spec
+    (λ c κs. search needs)
+    (λ c. answer-fits (sheetOf (now (c .before .before .before .before .args .text))) (c .before .sheet .ensures))
+    (λ c. sym (length-take-le _ _ (answer-fits (sheetOf (now (c .before .before .before .before .before .args .text))) (c .before .before .sheet .ensures))))
+    (λ c κs. search needs)
+    (λ c. search needs))
