@@ -1,4 +1,4 @@
-/* Encodes a frame of TC128, flips three bits, and has both decoders put it right.
+/* Encodes a frame of TC128, flips four bits, and has both decoders put it right.
  *
  *   rt staticlib labrador_ldpc
  *   cc -Iinclude examples/link.c target/staticlib/liblabrador_ldpc.a -o link && ./link */

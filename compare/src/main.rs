@@ -1,4 +1,4 @@
-//! Compares every answer, count and output byte of the two libraries, or times them: compare [CASES] | compare time
+//! Compares every answer, count and output byte of the two libraries, or times them: compare [CASES] | compare few | compare time
 use compare::archive::*;
 use compare::*;
 use labrador_ldpc::LDPCCode;
@@ -264,17 +264,17 @@ fn compare_refusals() -> usize {
     cases
 }
 
-/// About how many cases in all; at least 10,000 for each code and decoder.
-fn compare_all(wanted: usize) {
+/// About how many cases in all, and at least how many for each code and decoder.
+fn compare_all(wanted: usize, least: usize) {
     let start = Instant::now();
     let weights = [40, 24, 16, 5, 5, 5, 5];
     let mut total = 0;
     println!("| code | operation | cases | success at 0 | success later | limit spent |\n|-|-|-|-|-|-|");
     for (i, &code) in CODES.iter().enumerate() {
         let mut dice = Dice::new(i as u64 + 1);
-        let each = (wanted * weights[i] / 200).max(10_000);
+        let each = (wanted * weights[i] / 200).max(least);
         compare_params(i, code);
-        let encoded = compare_encode(i, code, 1_000.max(each / 50), &mut dice);
+        let encoded = compare_encode(i, code, (least / 10).max(each / 50), &mut dice);
         println!("| {code:?} | encode, copy_encode | {encoded} | | | |");
         let converted = compare_conversions(i, code, each / 20, &mut dice);
         println!("| {code:?} | hard_to_llrs, llrs_to_hard | {converted} | | | |");
@@ -376,7 +376,8 @@ fn time_all() {
 fn main() {
     match std::env::args().nth(1).as_deref() {
         Some("time") => time_all(),
-        Some(cases) => compare_all(cases.parse().expect("a number of cases, or 'time'")),
-        None => compare_all(1_000_000),
+        Some("few") => compare_all(0, 40),
+        Some(cases) => compare_all(cases.parse().expect("a number of cases, 'few' or 'time'"), 10_000),
+        None => compare_all(1_000_000, 10_000),
     }
 }
