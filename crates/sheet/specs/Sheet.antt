@@ -14,7 +14,8 @@ use Rattle.bit_flip.specs.Outcome as flip
 use Rattle.min_sum.specs.Confidence.{i8}
 use Rattle.min_sum.specs.Outcomes as soft
 use Rattle.sheet.specs.declared.read.Op.the-variants.{Encode, Bf, Ms}
-use Rattle.sheet.specs.Reading.{Sheet, malformed, sheet, parse}
+use Rattle.sheet.specs.declared.read.Reading.the-variants.{Malformed}
+use Rattle.sheet.specs.Reading.{Sheet, malformed, sheet, parse, textNumber}
 use Rattle.sheet.specs.Printing.{printed}
 
 -- "Every accepted call prints all its output bytes .. success or not"; "a refusal prints its number, `success=0`, `iters=0`, `output=`"
@@ -57,7 +58,7 @@ msSheet code maxiters frame =
 
 -- "Anything else .. is 9"; `encode` "reads `maxiters` and doesn't use it"
 abbrev pub answerTo : Sheet → List ℕ
-answerTo malformed = reported (refusal 9) []
+answerTo malformed = reported (refusal (textNumber Malformed)) []
 answerTo (sheet code Encode maxiters frame) = encodeSheet code frame
 answerTo (sheet code Bf maxiters frame) = bfSheet code maxiters frame
 answerTo (sheet code Ms maxiters frame) = msSheet code maxiters frame
