@@ -374,6 +374,11 @@ fn time_all() {
 }
 
 fn main() {
+    // a test that fails ends the comparison like any other difference
+    std::panic::set_hook(Box::new(|failed| {
+        println!("DIFFERENCE {failed}");
+        std::process::exit(1)
+    }));
     match std::env::args().nth(1).as_deref() {
         Some("time") => time_all(),
         Some("few") => compare_all(0, 40),
