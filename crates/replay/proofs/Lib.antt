@@ -1,1 +1,4 @@
 pub mod Confidence
+pub mod Lengths
+pub mod Agreeing
+pub mod Encoding

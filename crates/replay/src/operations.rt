@@ -1,4 +1,12 @@
 // Each operation, run as a case says: whether the library answers what the Rust did and writes the same bytes.
+ghost use mathlib.Core.List.{map};
+ghost use mathlib.Core.Path.{_≡_};
+ghost use lib.IntN.{pos, negsuc};
+ghost use lib.ListN.{length};
+ghost use Rattle.min_sum.specs.Confidence.{i8};
+ghost use Rattle.min_sum.specs.Outcomes.{written, toLlrsOutcome, toHardOutcome};
+ghost use Rattle.sheet.specs.Sheet.{sheetOf};
+ghost use Rattle.replay.specs.Agreement.{Agrees, EncodeCompared, Converted, Compared, FlipCompared, SoftCompared, recorded, bitFlipping, seenFlip, minSum, seenSoft, signed, softened, lent};
 use crate::cases::Case;
 use crate::cases::least;
 use crate::soft::same_soft;
@@ -8,7 +16,9 @@ use codes::CodeParams;
 use report::Report;
 
 // Both encoders: the data copied in, then the frame encoded once more in place.
-pub fn encoders(c: Case, data: &[u8], want: &[u8], word: &mut [u8]) -> bool {
+pub(crate) fn encoders(c: Case, data: &[u8], want: &[u8], word: &mut [u8]) -> bool
+    ensures { λ r. ⌜ EncodeCompared (c .code) (now («data» .entry)) (now (word .entry)) (now (want .entry)) r (now (word .exit)) ⌝ }
+{
     if encoder::copy_encode(c.code, data, word) != ACCEPTED {
         return false;
     }
@@ -21,7 +31,9 @@ pub fn encoders(c: Case, data: &[u8], want: &[u8], word: &mut [u8]) -> bool {
     check::same(word, want)
 }
 
-fn reported(r: Report, c: Case) -> bool {
+fn reported(r: Report, c: Case) -> bool
+    ensures { λ ok. ⌜ Agrees ok (r ≡ recorded c) ⌝ }
+{
     if r.answer != ACCEPTED {
         return false;
     }
@@ -31,13 +43,9 @@ fn reported(r: Report, c: Case) -> bool {
     r.iters == c.iters
 }
 
-fn bit_flipping_on(
-    c: Case,
-    read: &[u8],
-    want: &[u8],
-    output: &mut [u8],
-    working: &mut [u8],
-) -> bool {
+fn bit_flipping_on(c: Case, read: &[u8], want: &[u8], output: &mut [u8], working: &mut [u8]) -> bool
+    ensures { λ r. ⌜ FlipCompared c (now (want .entry)) (bitFlipping c (now (read .entry)) (now (output .entry)) (now (working .entry))) r (now (output .exit)) (now (working .exit)) ⌝ }
+{
     let r = bit_flip::decode_bf(c.code, read, output, working, c.most);
     if !reported(r, c) {
         return false;
@@ -45,7 +53,15 @@ fn bit_flipping_on(
     check::same(output, want)
 }
 
-pub fn bit_flipping(c: Case, row: CodeParams, read: &[u8], want: &[u8], output: &mut [u8]) -> bool {
+pub(crate) fn bit_flipping(
+    c: Case,
+    row: CodeParams,
+    read: &[u8],
+    want: &[u8],
+    output: &mut [u8],
+) -> bool
+    ensures { λ r. ⌜ Compared c (now (want .entry)) (seenFlip (bitFlipping c (now (read .entry)) (now (output .entry)) (lent 5632 0 (row .«decode_bf_working_len»)))) r (now (output .exit)) ⌝ }
+{
     let mut working = [0u8; 5632];
     let w = least(row.decode_bf_working_len, 5632);
     bit_flipping_on(c, read, want, output, &mut working[..w])
@@ -59,7 +75,9 @@ fn min_sum_on(
     llrs: &mut [i8],
     working: &mut [i8],
     signs: &mut [u8],
-) -> bool {
+) -> bool
+    ensures { λ r. ⌜ (SoftCompared c (now (want .entry)) (minSum c (now (read .entry)) (now (output .entry)) (now (llrs .entry)) (now (working .entry)) (now (signs .entry))) r (now (output .exit)) (now (working .exit)) (now (signs .exit))) × (now (llrs .exit) ≡ softened (now (read .entry)) (now (llrs .entry))) ⌝ }
+{
     soften(read, llrs);
     let r = min_sum::decode_ms_i8(c.code, llrs, output, working, signs, c.most);
     if !reported(r, c) {
@@ -68,7 +86,15 @@ fn min_sum_on(
     check::same(output, want)
 }
 
-pub fn min_sum_i8(c: Case, row: CodeParams, read: &[u8], want: &[u8], output: &mut [u8]) -> bool {
+pub(crate) fn min_sum_i8(
+    c: Case,
+    row: CodeParams,
+    read: &[u8],
+    want: &[u8],
+    output: &mut [u8],
+) -> bool
+    ensures { λ r. ⌜ Compared c (now (want .entry)) (seenSoft (minSum c (now (read .entry)) (now (output .entry)) (lent 5120 (pos 0) (length (now (read .entry)))) (lent 48640 (pos 0) (row .«decode_ms_working_len»)) (lent 192 0 (row .«decode_ms_working_u8_len»)))) r (now (output .exit)) ⌝ }
+{
     let mut llrs = [0i8; 5120];
     let mut working = [0i8; 48640];
     let mut signs = [0u8; 192];
@@ -86,20 +112,26 @@ pub fn min_sum_i8(c: Case, row: CodeParams, read: &[u8], want: &[u8], output: &m
     )
 }
 
-fn to_llrs_on(c: Case, read: &[u8], want: &[u8], llrs: &mut [i8]) -> bool {
+fn to_llrs_on(c: Case, read: &[u8], want: &[u8], llrs: &mut [i8]) -> bool
+    ensures { λ r. ⌜ Converted (toLlrsOutcome (negsuc 0) (pos 1) (c .code) (now (read .entry)) (now (llrs .entry))) (map signed (now (want .entry))) r (now (llrs .exit)) ⌝ }
+{
     if min_sum::llrs::hard_to_llrs_i8(c.code, read, llrs) != ACCEPTED {
         return false;
     }
     same_soft(llrs, want)
 }
 
-pub fn to_llrs(c: Case, read: &[u8], want: &[u8]) -> bool {
+pub(crate) fn to_llrs(c: Case, read: &[u8], want: &[u8]) -> bool
+    ensures { λ r. ⌜ Agrees r (toLlrsOutcome (negsuc 0) (pos 1) (c .code) (now (read .entry)) (lent 5120 (pos 0) (length (now (want .entry)))) ≡ written 0 (map signed (now (want .entry)))) ⌝ }
+{
     let mut llrs = [0i8; 5120];
     let n = least(want.len(), 5120);
     to_llrs_on(c, read, want, &mut llrs[..n])
 }
 
-fn to_hard_on(c: Case, read: &[u8], want: &[u8], output: &mut [u8], llrs: &mut [i8]) -> bool {
+fn to_hard_on(c: Case, read: &[u8], want: &[u8], output: &mut [u8], llrs: &mut [i8]) -> bool
+    ensures { λ r. ⌜ (Converted (toHardOutcome i8 (c .code) (softened (now (read .entry)) (now (llrs .entry))) (now (output .entry))) (now (want .entry)) r (now (output .exit))) × (now (llrs .exit) ≡ softened (now (read .entry)) (now (llrs .entry))) ⌝ }
+{
     soften(read, llrs);
     if min_sum::llrs::llrs_to_hard_i8(c.code, llrs, output) != ACCEPTED {
         return false;
@@ -107,13 +139,17 @@ fn to_hard_on(c: Case, read: &[u8], want: &[u8], output: &mut [u8], llrs: &mut [
     check::same(output, want)
 }
 
-pub fn to_hard(c: Case, read: &[u8], want: &[u8], output: &mut [u8]) -> bool {
+pub(crate) fn to_hard(c: Case, read: &[u8], want: &[u8], output: &mut [u8]) -> bool
+    ensures { λ r. ⌜ Converted (toHardOutcome i8 (c .code) (softened (now (read .entry)) (lent 5120 (pos 0) (length (now (read .entry))))) (now (output .entry))) (now (want .entry)) r (now (output .exit)) ⌝ }
+{
     let mut llrs = [0i8; 5120];
     let n = least(read.len(), 5120);
     to_hard_on(c, read, want, output, &mut llrs[..n])
 }
 
-pub fn answers(text: &[u8], want: &[u8]) -> bool {
+pub(crate) fn answers(text: &[u8], want: &[u8]) -> bool
+    ensures { λ r. ⌜ Agrees r (sheetOf (now (text .entry)) ≡ now (want .entry)) ⌝ }
+{
     let a = sheet::sheet(text);
     let bytes = a.bytes;
     let len = a.len;

@@ -1,6 +1,11 @@
 // Confidences as the list holds them: a byte, the value modulo 256.
+ghost use mathlib.Core.List.{map};
+ghost use mathlib.Core.Path.{_≡_};
+ghost use Rattle.replay.specs.Agreement.{Agrees, signed, softened};
 
-fn soft_of(x: u8) -> i8 {
+fn soft_of(x: u8) -> i8
+    ensures { λ r. ⌜ r ≡ signed x ⌝ }
+{
     if x < 128 {
         x as i8
     } else {
@@ -9,7 +14,9 @@ fn soft_of(x: u8) -> i8 {
 }
 
 // Slices of two lengths stay as they are.
-pub fn soften(bytes: &[u8], soft: &mut [i8]) {
+pub(crate) fn soften(bytes: &[u8], soft: &mut [i8])
+    ensures { λ _. ⌜ now (soft .exit) ≡ softened (now (bytes .entry)) (now (soft .entry)) ⌝ }
+{
     if soft.len() != bytes.len() {
         return;
     }
@@ -19,7 +26,9 @@ pub fn soften(bytes: &[u8], soft: &mut [i8]) {
 }
 
 // Whether the list holds these confidences.
-pub fn same_soft(soft: &[i8], bytes: &[u8]) -> bool {
+pub(crate) fn same_soft(soft: &[i8], bytes: &[u8]) -> bool
+    ensures { λ r. ⌜ Agrees r (now (soft .entry) ≡ map signed (now (bytes .entry))) ⌝ }
+{
     if soft.len() != bytes.len() {
         return false;
     }

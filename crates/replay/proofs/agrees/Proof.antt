@@ -1,5 +1,5 @@
 use Prim.Native.Nat.{ℕ}
-use Rattle.sheet.proofs.Rooms.{lent}
+use Rattle.replay.proofs.Lengths.{lent-long}
 use borrow.Author.Needs.{needs}
 use Rattle.replay.proofs.agrees.Statement.{statement}
 use Rattle.replay.proofs.agrees.Tie as tie
@@ -14,10 +14,10 @@ agrees-spec =
     (λ c κs. search needs)
     (λ c κs. search needs)
     (λ c. search needs)
-    (λ c. lent {A = ℕ} 8193 0 (c .before .before .before .least .ensures))
+    (λ c. lent-long {A = ℕ} 8193 0 _ (c .before .before .before .least .ensures))
     (λ c. search needs)
-    (λ c. lent {A = ℕ} 5120 0 (c .before .before .least2 .ensures))
+    (λ c. lent-long {A = ℕ} 5120 0 _ (c .before .before .least2 .ensures))
     (λ c. search needs)
-    (λ c. lent {A = ℕ} 5120 0 (c .before .before .before .least2 .ensures))
+    (λ c. lent-long {A = ℕ} 5120 0 _ (c .before .before .before .least2 .ensures))
     (λ c κs. search needs)
     (λ c. search needs))

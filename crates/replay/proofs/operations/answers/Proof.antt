@@ -3,6 +3,7 @@ use denote.Ref.{now}
 use lib.Seq.{length-take-le}
 use Rattle.sheet.specs.Sheet.{sheetOf}
 use Rattle.sheet.proofs.Writes.{answer-fits}
+use Rattle.replay.proofs.Agreeing.{told, answer-text}
 use borrow.Author.Needs.{needs}
 use Rattle.replay.proofs.operations.answers.Statement.{statement}
 use Rattle.replay.proofs.operations.answers.Tie as tie
@@ -15,4 +16,6 @@ answers-spec =
     (λ c. answer-fits (sheetOf (now (c .before .before .before .before .args .text))) (c .before .sheet .ensures))
     (λ c. sym (length-take-le _ _ (answer-fits (sheetOf (now (c .before .before .before .before .before .args .text))) (c .before .before .sheet .ensures))))
     (λ c κs. search needs)
-    (λ c. search needs))
+    (λ c.
+    let s = c .before .before .before in
+    told (answer-text (sheetOf (now (s .before .before .before .args .text))) (s .sheet .ensures)) (c .same .ensures)))

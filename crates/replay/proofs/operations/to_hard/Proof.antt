@@ -1,5 +1,5 @@
 use lib.IntN.{ℤ, pos}
-use Rattle.sheet.proofs.Rooms.{lent}
+use Rattle.replay.proofs.Lengths.{lent-long, lent-is}
 use borrow.Author.Needs.{needs}
 use Rattle.replay.proofs.operations.to_hard.Statement.{statement}
 use Rattle.replay.proofs.operations.to_hard.Tie as tie
@@ -10,7 +10,10 @@ to-hard-spec =
     (tie.spec
     (λ c κs. search needs)
     (λ c. search needs)
-    (λ c. lent {A = ℤ} 5120 (pos 0) (c .before .before .least .ensures))
+    (λ c. lent-long {A = ℤ} 5120 (pos 0) _ (c .before .before .least .ensures))
     (λ c κs. search needs)
     (λ c. search needs)
-    (λ c. search needs))
+    (λ c.
+    let h = c .before .before .before in
+    let l = h .before .before .before in
+    rw (lent-is {A = ℤ} 5120 (pos 0) _ (l .least .ensures)) at (h .to-hard-on .ensures .0)))

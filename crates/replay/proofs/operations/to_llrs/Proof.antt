@@ -1,5 +1,5 @@
 use lib.IntN.{ℤ, pos}
-use Rattle.sheet.proofs.Rooms.{lent}
+use Rattle.replay.proofs.Lengths.{lent-long, lent-is}
 use borrow.Author.Needs.{needs}
 use Rattle.replay.proofs.operations.to_llrs.Statement.{statement}
 use Rattle.replay.proofs.operations.to_llrs.Tie as tie
@@ -10,6 +10,6 @@ to-llrs-spec =
     (tie.spec
     (λ c κs. search needs)
     (λ c. search needs)
-    (λ c. lent {A = ℤ} 5120 (pos 0) (c .before .least .ensures))
+    (λ c. lent-long {A = ℤ} 5120 (pos 0) _ (c .before .least .ensures))
     (λ c κs. search needs)
-    (λ c. search needs))
+    (λ c. rw (lent-is {A = ℤ} 5120 (pos 0) _ (c .before .before .before .least .ensures)) at (c .before .to-llrs-on .ensures .agrees)))

@@ -1,5 +1,5 @@
 use native.Mathlib.Omega.{arith}
-use Rattle.replay.proofs.Confidence.{lowers, narrows}
+use Rattle.replay.proofs.Confidence.{lowers, narrows, signed-below, signed-above}
 use borrow.Author.Needs.{needs}
 use Rattle.replay.proofs.soft.soft_of.Statement.{statement}
 use Rattle.replay.proofs.soft.soft_of.Tie as tie
@@ -12,5 +12,5 @@ soft-of-spec =
     (λ c. search needs)
     (λ c. lowers (c .before .args .x) (search needs))
     (λ c. narrows (c .before .args .x) (search needs) (search needs))
-    (λ c. search needs)
-    (λ c. search needs))
+    (λ c. signed-below (c .before .args .x) (c .if1 .taken))
+    (λ c. signed-above (c .before .args .x) (search needs) (c .if1 .left)))

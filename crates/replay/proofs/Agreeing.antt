@@ -1,0 +1,135 @@
+-- Tests that tell exactly whether what is left is what was recorded. Assumes nothing.
+use mathlib.Core.Bool.{Bool, true, false, not, Bool·beq}
+use mathlib.Core.List.{List}
+use mathlib.Core.Path.{_≡_, refl, sym, ap, _∙_}
+use Prim.Native.Nat.{ℕ, _-_}
+use native.Mathlib.Omega.{arith}
+use borrow.Author.Tests.{eqb-true, eq-eqb}
+use lib.Dec.{eqb}
+use lib.IntN.{ℤ}
+use lib.ListN.{length, take, replicate}
+use lib.Seq.{take-append-seam}
+use Rattle.report.specs.declared.Report.{Report}
+use Rattle.report.specs.Report.{ending}
+use Rattle.bit_flip.specs.Outcome as flip
+use Rattle.min_sum.specs.Confidence.{i8}
+use Rattle.min_sum.specs.Outcomes as soft
+use Rattle.sheet.specs.declared.print.Answer.{Answer}
+use Rattle.sheet.specs.Printing.{room, answerOf}
+use Rattle.replay.specs.declared.cases.Case.{Case}
+use Rattle.replay.specs.Agreement.{Agrees, softened, Converted, Seen, seen, recorded, Compared, bitFlipping, seenFlip, minSum, seenSoft, FlipCompared, SoftCompared}
+
+-- no test is false and true
+pub never : {b : Bool} → b ≡ false → b ≡ true → ⊥
+never f t = let z : _≡_ {A = ℕ} 0 1 = cc in omega arith
+
+-- a test that fails, and one that tells of an equal thing
+pub denies : {P : Type 0} → (P → ⊥) → Agrees false P
+denies h = record { sound = λ e. absurd (never refl e); complete = λ p. absurd (h p) }
+
+pub told : {A : Type 0} {a b d : A} {r : Bool} → a ≡ b → (r ≡ true → a ≡ d) × (a ≡ d → r ≡ true) → Agrees r (b ≡ d)
+told e g = record { sound = λ h. sym e ∙ g .0 h; complete = λ p. g .1 (e ∙ p) }
+
+-- a report: its answer is tested, then whether it is a success, then its iterations
+unlike : (a b : Bool) → not (Bool·beq a b) ≡ true → a ≡ b → ⊥
+unlike true true e p = never refl e
+unlike true false e p = never p refl
+unlike false true e p = never refl p
+unlike false false e p = never refl e
+
+alike : (a b : Bool) → not (Bool·beq a b) ≡ false → a ≡ b
+alike true true e = refl
+alike true false e = e
+alike false true e = sym e
+alike false false e = refl
+
+made : (a : ℕ) (b s : Bool) (i n : ℕ) → a ≡ 0 → b ≡ s → i ≡ n → record { answer = a; success = b; iters = i } ≡ ending s n
+made a b s i n e f g = rw (e, f, g)
+
+module _ (r : Report) (c : Case) where
+  pub other-answer : (r .answer ≡ 0 → ⊥) → Agrees false (r ≡ recorded c)
+  other-answer h = denies (λ p. h (ap (λ (x : Report). x .answer) p))
+
+  pub other-success : not (Bool·beq (r .success) (c .success)) ≡ true → Agrees false (r ≡ recorded c)
+  other-success h = denies (λ p. unlike (r .success) (c .success) h (ap (λ (x : Report). x .success) p))
+
+  pub iters-tell : r .answer ≡ 0 → not (Bool·beq (r .success) (c .success)) ≡ false → Agrees (eqb (r .iters) (c .iters)) (r ≡ recorded c)
+  iters-tell e f =
+      record {
+        sound = λ h. made (r .answer) (r .success) (c .success) (r .iters) (c .iters) e (alike (r .success) (c .success) f) (eqb-true (r .iters) (c .iters) h);
+        complete = λ p. eq-eqb (r .iters) (c .iters) (ap (λ (x : Report). x .iters) p);
+      }
+
+-- a decoder: its report is tested, then its output
+module _ (c : Case) (want : List ℕ) {r : Report} {o : List ℕ} {x : Seen} {b : Bool} (e : seen r o ≡ x) (a : Agrees b (r ≡ recorded c)) where
+  other-report : b ≡ false → Compared c want x false o
+  other-report f =
+      record {
+        agrees = denies (λ p. never f (a .complete (ap (λ (s : Seen). s .report) (e ∙ p))));
+        left = ap (λ (s : Seen). s .output) e;
+      }
+
+  same-report : {t : Bool} → b ≡ true → (t ≡ true → o ≡ want) × (o ≡ want → t ≡ true) → Compared c want x t o
+  same-report f g =
+      record {
+        agrees = record { sound = λ h. sym e ∙ rw (a .sound f, g .0 h); complete = λ p. g .1 (ap (λ (s : Seen). s .output) (e ∙ p)) };
+        left = ap (λ (s : Seen). s .output) e;
+      }
+
+module _ (c : Case) (want input output working : List ℕ) {r : Report} {o w : List ℕ} {b : Bool}
+    (e : flip.left r o w ≡ bitFlipping c input output working) (a : Agrees b (r ≡ recorded c)) where
+  pub flip-other : b ≡ false → FlipCompared c want (bitFlipping c input output working) false o w
+  flip-other f = record { compared = other-report c want (ap seenFlip e) a f; working-left = ap (λ (y : flip.Outcome). y .working) e }
+
+  pub flip-same : {t : Bool} → b ≡ true → (t ≡ true → o ≡ want) × (o ≡ want → t ≡ true)
+      → FlipCompared c want (bitFlipping c input output working) t o w
+  flip-same f g = record { compared = same-report c want (ap seenFlip e) a f g; working-left = ap (λ (y : flip.Outcome). y .working) e }
+
+-- a decoder of the confidences l that bytes were read as
+module _ (c : Case) (want bytes output : List ℕ) (llrs working : List ℤ) (signs : List ℕ) {l w : List ℤ} {r : Report} {o s : List ℕ} {b : Bool}
+    (n : l ≡ softened bytes llrs) (d : soft.left r o w s ≡ soft.decodeOutcome i8 (c .code) l output working signs (c .most)) (a : Agrees b (r ≡ recorded c)) where
+  abbrev outcome : soft.Outcome ℤ
+  outcome = minSum c bytes output llrs working signs
+
+  left-is : soft.left r o w s ≡ outcome
+  left-is = d ∙ ap (λ (l : List ℤ). soft.decodeOutcome i8 (c .code) l output working signs (c .most)) n
+
+  pub soft-other : b ≡ false → SoftCompared c want outcome false o w s
+  soft-other f =
+      record {
+        compared = other-report c want (ap seenSoft left-is) a f;
+        working-left = ap (λ (y : soft.Outcome ℤ). y .working) left-is;
+        signs-left = ap (λ (y : soft.Outcome ℤ). y .«working_u8») left-is;
+      }
+
+  pub soft-same : {t : Bool} → b ≡ true → (t ≡ true → o ≡ want) × (o ≡ want → t ≡ true) → SoftCompared c want outcome t o w s
+  soft-same f g =
+      record {
+        compared = same-report c want (ap seenSoft left-is) a f g;
+        working-left = ap (λ (y : soft.Outcome ℤ). y .working) left-is;
+        signs-left = ap (λ (y : soft.Outcome ℤ). y .«working_u8») left-is;
+      }
+
+-- a conversion: its answer is tested, then what it wrote
+module _ {A : Type 0} (want : List A) {n : ℕ} {xs : List A} {x : soft.Written A} (e : soft.written n xs ≡ x) where
+  wrote : xs ≡ x .buffer
+  wrote = ap (λ (w : soft.Written A). w .buffer) e
+
+  pub refused : (n ≡ 0 → ⊥) → Converted x want false xs
+  refused h = record { agrees = denies (λ p. h (ap (λ (w : soft.Written A). w .answer) (e ∙ p))); left = wrote }
+
+  pub accepted : {t : Bool} → n ≡ 0 → Agrees t (xs ≡ want) → Converted x want t xs
+  accepted h g =
+      record {
+        agrees = record { sound = λ y. sym e ∙ rw (h, g .sound y); complete = λ p. g .complete (ap (λ (w : soft.Written A). w .buffer) (e ∙ p)) };
+        left = wrote;
+      }
+
+-- the hard bits of the confidences l that bytes were read as
+pub hard-of : (code : ℕ) (bytes output : List ℕ) (llrs : List ℤ) {l : List ℤ} {x : soft.Written ℕ} → l ≡ softened bytes llrs
+    → x ≡ soft.toHardOutcome i8 code l output → x ≡ soft.toHardOutcome i8 code (softened bytes llrs) output
+hard-of code bytes output llrs n d = d ∙ ap (λ (l : List ℤ). soft.toHardOutcome i8 code l output) n
+
+-- a sheet's answer: the text lies at the front of its bytes
+pub answer-text : {a : Answer} (text : List ℕ) → a ≡ answerOf text → take (a .len) (a .bytes) ≡ text
+answer-text text e = rw e (take-append-seam text (replicate (room - length text) 0))

@@ -1,0 +1,71 @@
+-- A frame that was encoded is encoded again to itself, and what the tests of both encoders tell. Assumes nothing.
+use mathlib.Core.Bool.{Bool, true, false, not}
+use mathlib.Core.List.{List}
+use mathlib.Core.Path.{_≡_, refl, sym, ap, _∙_}
+use Prim.Native.Nat.{ℕ, suc, _/_}
+use native.Mathlib.Omega.{arith}
+use borrow.Author.Tests.{ltb-true, eqb-true, eq-eqb, not-false}
+use lib.Dec.{eqb, ltb}
+use lib.ListN.{length, take}
+use Rattle.maths.specs.Tests.{pick}
+use Rattle.codes.specs.Answers.{unlike}
+use Rattle.codes.specs.Codes.{codes, Known, known, rowOf}
+use Rattle.matrices.specs.Frames.{encodedBytes}
+use Rattle.matrices.proofs.Encoded.{encoded-front, encoded-length}
+use Rattle.encoder.specs.Outcomes.{Encoded, encoded, encodeOutcome, copyEncodeOutcome}
+use Rattle.encoder.proofs.Answered.{encode-done}
+use Rattle.replay.specs.Agreement.{EncodeCompared}
+use Rattle.replay.proofs.Agreeing.{never, denies}
+
+passed : (fails : Bool) (n : ℕ) {rest : ℕ} → pick fails (suc n) rest ≡ 0 → (fails ≡ false) × (rest ≡ 0)
+passed true n e = absurd (omega arith)
+passed false n e = (refl, e)
+
+module _ (code : ℕ) (m s : List ℕ) where
+  abbrev first : Encoded
+  first = copyEncodeOutcome code m s
+
+  twice : first .answer ≡ 0 → encodeOutcome code (first .codeword) ≡ encoded 0 (first .codeword)
+  twice z =
+      let t₁ = passed (not (known code)) 0 z in
+      let t₂ = passed (unlike (length m) (rowOf code .k / 8)) 1 (t₁ .1) in
+      let h : Known code = ltb-true code codes (not-false (ltb code codes) (t₁ .0)) in
+      let long : length m ≡ rowOf code .k / 8 = eqb-true _ _ (not-false (eqb (length m) (rowOf code .k / 8)) (t₂ .0)) in
+      let is : first .codeword ≡ encodedBytes code m = rw (eq-eqb _ 0 z) in
+      sym (encode-done code (first .codeword) h (ap length is ∙ encoded-length code h m long)
+      (is ∙ ap (encodedBytes code) (sym (ap (take (rowOf code .k / 8)) is ∙ encoded-front code m long))))
+
+  module _ (want : List ℕ) {a : ℕ} {w : List ℕ} (e : encoded a w ≡ first) where
+    answered : a ≡ first .answer
+    answered = ap (λ (x : Encoded). x .answer) e
+
+    copied : w ≡ first .codeword
+    copied = ap (λ (x : Encoded). x .codeword) e
+
+    pub copy-refused : (a ≡ 0 → ⊥) → EncodeCompared code m s want false w
+    copy-refused h = record { agrees = denies (λ p. h (answered ∙ ap (λ (x : Encoded). x .answer) (p .copied))); left = copied }
+
+    pub copy-other : {b : Bool} → b ≡ false → (w ≡ want → b ≡ true) → EncodeCompared code m s want false w
+    copy-other f g = record { agrees = denies (λ p. never f (g (copied ∙ ap (λ (x : Encoded). x .codeword) (p .copied)))); left = copied }
+
+    -- the first call was accepted, and the second one is made
+    module _ (z : a ≡ 0) {b : ℕ} {v : List ℕ} (f : encoded b v ≡ encodeOutcome code w) where
+      again : encodeOutcome code w ≡ encoded 0 w
+      again = rw copied (twice (sym answered ∙ z))
+
+      same : v ≡ w
+      same = ap (λ (x : Encoded). x .codeword) (f ∙ again)
+
+      pub again-refused : (b ≡ 0 → ⊥) → EncodeCompared code m s want false v
+      again-refused h = absurd (h (ap (λ (x : Encoded). x .answer) (f ∙ again)))
+
+      pub again-told : {t : Bool} → (t ≡ true → v ≡ want) × (v ≡ want → t ≡ true) → EncodeCompared code m s want t v
+      again-told g =
+          record {
+            agrees =
+                record {
+                  sound = λ h. let is : w ≡ want = sym same ∙ g .0 h in record { copied = sym e ∙ rw (z, is); again = rw is at again };
+                  complete = λ p. g .1 (same ∙ copied ∙ ap (λ (x : Encoded). x .codeword) (p .copied));
+                };
+            left = same ∙ copied;
+          }

@@ -1,0 +1,115 @@
+-- What a case reads and records, and when the library agrees with it. Assumes nothing.
+use mathlib.Core.Bool.{Bool, true}
+use mathlib.Core.List.{List, map}
+use mathlib.Core.Path.{_≡_}
+use Prim.Native.Nat.{ℕ, _-_, _/_, min}
+use lib.Dec.{eqb, ltb}
+use lib.IntN.{ℤ, pos, negsuc}
+use lib.ListN.{length, replicate}
+use Rattle.maths.specs.Tests.{pick}
+use Rattle.codes.specs.declared.CodeParams.{CodeParams}
+use Rattle.report.specs.declared.Report.{Report}
+use Rattle.report.specs.Report.{ending}
+use Rattle.encoder.specs.Outcomes.{encoded, encodeOutcome, copyEncodeOutcome}
+use Rattle.bit_flip.specs.Outcome as flip
+use Rattle.min_sum.specs.Confidence.{i8}
+use Rattle.min_sum.specs.Outcomes as soft
+use Rattle.replay.specs.declared.cases.Case.{Case}
+
+-- a test r tells exactly whether P is so
+pub record Agrees (r : Bool) (P : Type 0) : Type 0 where
+  pub sound : r ≡ true → P
+  pub complete : P → r ≡ true
+
+-- ---- the list
+-- how many bytes an operation reads: 1 encoders, 2 bit flipping, 3 min-sum, 4 hard_to_llrs, 5 llrs_to_hard, any other a sheet
+abbrev pub readLen : Case → CodeParams → ℕ
+readLen c row =
+    pick (eqb (c .op) 1) (row .k / 8)
+    (pick (eqb (c .op) 2) (row .n / 8)
+    (pick (eqb (c .op) 3) (row .n)
+    (pick (eqb (c .op) 4) (row .n / 8)
+    (pick (eqb (c .op) 5) (row .n) (c .text)))))
+
+-- how many bytes it writes
+abbrev pub writtenLen : Case → CodeParams → ℕ
+writtenLen c row =
+    pick (eqb (c .op) 1) (row .n / 8)
+    (pick (eqb (c .op) 2) (row .«output_len»)
+    (pick (eqb (c .op) 3) (row .«output_len»)
+    (pick (eqb (c .op) 4) (row .n)
+    (pick (eqb (c .op) 5) (row .n / 8) (c .answer)))))
+
+-- the confidence that a byte stands for: the number from -128 to 127 that is the byte modulo 256
+unfoldable pub signed : ℕ → ℤ
+signed x = pick (ltb x 128) (pos x) (negsuc (255 - x))
+
+-- confidences after they are read from bytes: those of another length stay as they are
+abbrev pub softened : List ℕ → List ℤ → List ℤ
+softened bytes soft = pick (eqb (length soft) (length bytes)) (map signed bytes) soft
+
+-- the part of a buffer that is lent: n times one value, and no more than the buffer has
+abbrev pub lent : {A : Type 0} → ℕ → A → ℕ → List A
+lent room x n = replicate (min n room) x
+
+-- ---- the encoders and the conversions
+-- both encoders leave the recorded codeword: from the data, and from the codeword once more
+pub record Encodes (code : ℕ) (message word want : List ℕ) : Type 0 where
+  pub copied : copyEncodeOutcome code message word ≡ encoded 0 want
+  pub again : encodeOutcome code want ≡ encoded 0 want
+
+-- a test tells exactly whether they do, and the codeword is what they leave
+pub record EncodeCompared (code : ℕ) (message word want : List ℕ) (r : Bool) (codeword : List ℕ) : Type 0 where
+  pub agrees : Agrees r (Encodes code message word want)
+  pub left : codeword ≡ copyEncodeOutcome code message word .codeword
+
+-- a test tells exactly whether a conversion is accepted and leaves what is recorded, and the buffer is what it leaves
+pub record Converted {A : Type 0} (x : soft.Written A) (want : List A) (r : Bool) (buffer : List A) : Type 0 where
+  pub agrees : Agrees r (x ≡ soft.written 0 want)
+  pub left : buffer ≡ x .buffer
+
+-- ---- the decoders
+-- what is compared of a decode: its report and its output
+pub record Seen : Type 0 where
+  pub report : Report
+  pub output : List ℕ
+
+-- such a pair
+abbrev pub seen : Report → List ℕ → Seen
+seen r o = record { report = r; output = o }
+
+-- the report that a case records: accepted, a success or not, and so many iterations
+abbrev pub recorded : Case → Report
+recorded c = ending (c .success) (c .iters)
+
+-- a test tells exactly whether what is compared is what the case records, and the output is what was compared
+pub record Compared (c : Case) (want : List ℕ) (x : Seen) (r : Bool) (output : List ℕ) : Type 0 where
+  pub agrees : Agrees r (x ≡ seen (recorded c) want)
+  pub left : output ≡ x .output
+
+-- what bit flipping leaves, as the case asks for it
+abbrev pub bitFlipping : Case → List ℕ → List ℕ → List ℕ → flip.Outcome
+bitFlipping c input output working = flip.outcome (c .code) input output working (c .most)
+
+-- what is compared of that
+abbrev pub seenFlip : flip.Outcome → Seen
+seenFlip x = seen (x .report) (x .output)
+
+-- what min-sum leaves, as the case asks for it, of the confidences that the bytes stand for
+abbrev pub minSum : Case → List ℕ → List ℕ → List ℤ → List ℤ → List ℕ → soft.Outcome ℤ
+minSum c bytes output llrs working signs = soft.decodeOutcome i8 (c .code) (softened bytes llrs) output working signs (c .most)
+
+-- what is compared of that
+abbrev pub seenSoft : soft.Outcome ℤ → Seen
+seenSoft x = seen (x .report) (x .output)
+
+-- bit flipping is compared, and its working buffer is left
+pub record FlipCompared (c : Case) (want : List ℕ) (x : flip.Outcome) (r : Bool) (output working : List ℕ) : Type 0 where
+  pub compared : Compared c want (seenFlip x) r output
+  pub working-left : working ≡ x .working
+
+-- min-sum is compared, and both its working buffers are left
+pub record SoftCompared (c : Case) (want : List ℕ) (x : soft.Outcome ℤ) (r : Bool) (output : List ℕ) (working : List ℤ) (signs : List ℕ) : Type 0 where
+  pub compared : Compared c want (seenSoft x) r output
+  pub working-left : working ≡ x .working
+  pub signs-left : signs ≡ x .«working_u8»
