@@ -26,7 +26,7 @@ permutation-column-spec =
     (λ c. search needs)
     (λ c κs. search needs)
     (λ c. omega (arith, c .wide .ensures .1))
-    (λ c. search needs)
+    (λ c. omega arith)
     (λ c.
     let b = c .before .before in
     let s = b .before .before in

@@ -20,4 +20,4 @@ put-turned-spec =
     let p = c .before .before .before in
     let e = p .before .before .before in
     let a = e .before .args in
-    stored-turned (a .check .0) (a .bit .0) (a .turn) (a .size) (e .if1 .left) (p .put-run2 .ensures) (c .put-run3 .ensures)))
+    stored-turned (a .check .0) (a .bit .0) (a .turn) (a .size) {l″ = c .put-run3 .last .0} {t″ = c .put-run3 .result} (e .if1 .left) (p .put-run2 .ensures) (c .put-run3 .ensures)))

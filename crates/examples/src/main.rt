@@ -1,12 +1,52 @@
-// Both decoders on a TC128 frame with four bits flipped, then calls that are refused: the output stays as it was.
+// The examples of document 01 that are run, and those of the Rust's documentation: TC128, data 00 to 07. A call that is refused leaves
+// the buffer as it was.
+use codes::ACCEPTED;
 use libc::STDOUT_FILENO;
 use report::Report;
+use report::finished;
+use report::refused;
 
+// Four lines: the answer, success, iterations and all bytes of a buffer.
 fn show(r: Report, output: &[u8]) {
     let a = sheet::print::print(r.answer, r.success, r.iters, output);
     let bytes = a.bytes;
     let len = a.len;
     io::write_all(STDOUT_FILENO, &bytes[..len]);
+}
+
+fn show_encoded(answer: u8, codeword: &[u8]) {
+    if answer == ACCEPTED {
+        show(finished(true, 0), codeword);
+    } else {
+        show(refused(answer), codeword);
+    }
+}
+
+fn copied(code: usize, data: &[u8], codeword: &mut [u8]) {
+    let answer = encoder::copy_encode(code, data, codeword);
+    show_encoded(answer, codeword);
+}
+
+fn in_place(code: usize, codeword: &mut [u8]) {
+    let answer = encoder::encode(code, codeword);
+    show_encoded(answer, codeword);
+}
+
+fn encodes() {
+    let data = [0u8, 1, 2, 3, 4, 5, 6, 7];
+    let mut codeword = [0xffu8; 16];
+    copied(0, &data, &mut codeword);
+    in_place(0, &mut codeword);
+    copied(7, &data, &mut [0xffu8; 16]);
+    copied(0, &data[..0], &mut [0xffu8; 16]);
+    copied(0, &data[..7], &mut [0xffu8; 15]);
+    copied(0, &[0u8; 9], &mut [0xffu8; 16]);
+    copied(0, &data, &mut [0xffu8; 15]);
+    copied(0, &data, &mut [0xffu8; 17]);
+    in_place(7, &mut [0xffu8; 15]);
+    in_place(0, &mut [0xffu8; 16][..0]);
+    in_place(0, &mut [0xffu8; 15]);
+    in_place(0, &mut [0xffu8; 17]);
 }
 
 fn flip(code: usize, input: &[u8], output: &mut [u8], working: &mut [u8]) {
@@ -87,6 +127,7 @@ fn softs(frame: &[u8]) {
     );
 }
 
+// The frame of data 00 to 07 with four bits flipped.
 fn main() {
     let frame = [
         0x55u8,
@@ -106,6 +147,7 @@ fn main() {
         0x62,
         0x56,
     ];
+    encodes();
     flips(&frame);
     softs(&frame);
 }

@@ -7,8 +7,8 @@ use lib.Seq.{length-take-le}
 use Rattle.sheet.specs.Printing.{printed, most}
 use Rattle.sheet.proofs.Writes.{answer-fits}
 use borrow.Author.Needs.{needs}
-use Rattle.decode_example.proofs.show.Statement.{statement}
-use Rattle.decode_example.proofs.show.Tie as tie
+use Rattle.examples.proofs.show.Statement.{statement}
+use Rattle.examples.proofs.show.Tie as tie
 
 -- what is printed
 abbrev text : tie.After-print → List ℕ
