@@ -100,17 +100,17 @@ module _ (code : ℕ) (op : Op) (maxiters : ℕ) (frame : List ℕ) where
             ops = r .ops;
           }
 
-  record Named' (s : List ℕ) (c : ℕ) : Type 0 where
+  record Chosen (s : List ℕ) (c : ℕ) : Type 0 where
     is : s ≡ line (ascii "op=") (nameOf op) ++ (line (ascii "maxiters=") (decimal maxiters) ++ line (ascii "frame=") (hex frame))
     low : maxiters ≤ largest
     bytes : Bytes frame
     codes : c ≡ code
 
-  from-op : (s : List ℕ) (c : ℕ) → fromOp c s ≡ sheet code op maxiters frame → Named' s c
+  from-op : (s : List ℕ) (c : ℕ) → fromOp c s ≡ sheet code op maxiters frame → Chosen s c
   unfolding fromOp
   from-op s c e = by (field-spelled (ascii "op=") s _ code op maxiters frame e)
     where
-      by : Field (ascii "op=") s (λ v rest. withOp (opOf v) (λ o. fromLimit c o rest)) (sheet code op maxiters frame) → Named' s c
+      by : Field (ascii "op=") s (λ v rest. withOp (opOf v) (λ o. fromLimit c o rest)) (sheet code op maxiters frame) → Chosen s c
       by f =
           let n = name-there (opOf (f .value)) (λ o. fromLimit c o (f .rest)) (f .then) in
           let r = from-limit (f .rest) c (n .0) (n .1 .1) in
