@@ -1,21 +1,18 @@
 -- Bit flipping meets the demands on a decoder. Assumes nothing.
-use mathlib.Core.Bool.{Bool, true, false}
+use mathlib.Core.Bool.{true}
 use mathlib.Core.List.{List}
 use mathlib.Core.Path.{_≡_, refl, sym, ap, _∙_}
-use Prim.Native.Nat.{ℕ, zero, suc, _+_, _≤_, _<_}
+use Prim.Native.Nat.{ℕ, zero, suc, _+_, _<_}
 use native.Mathlib.Nat.{add-zero}
 use native.Mathlib.Decide.{ℕ-discrete}
 use native.Mathlib.Omega.{arith}
 use borrow.Author.Tests.{eq-eqb, ne-eqb, lt-ltb}
-use lib.Dec.{eqb, ltb}
+use lib.Dec.{ltb}
 use lib.ListN.{length}
 use Rattle.maths.specs.Tests.{pick, both}
-use Rattle.maths.specs.Lists.{span}
 use Rattle.maths.specs.Bytes.{Bytes}
-use Rattle.maths.specs.Budget.{End, run}
-use Rattle.maths.proofs.Lists.{span-length}
-use Rattle.maths.proofs.Fronts.{span-of}
-use Rattle.bits.specs.Packed.{byteOf}
+use Rattle.maths.specs.Budget.{run}
+use Rattle.maths.proofs.Bytes.{length-pack, bytes-pack}
 use Rattle.codes.specs.Codes.{rowOf, checksIn}
 use Rattle.codes.specs.Edges.{edges}
 use Rattle.report.specs.declared.Report.{Report}
@@ -24,9 +21,9 @@ use Rattle.bit_flip.specs.Flip.{pass, passes}
 use Rattle.bit_flip.specs.Erasures.{voted, Filled, filled, erasurePasses}
 use Rattle.bit_flip.specs.Outcome.{Outcome, left, decodeWord, received, punctured, decoded, outcome}
 use Rattle.bit_flip.proofs.Theorems.{success-meets, clean}
-use Rattle.agreement.specs.Demands.{Told, told, DecodesByTable, SuccessMeets, FrameReturns, CountsPasses}
+use Rattle.agreement.specs.Demands.{told, DecodesByTable, SuccessMeets, FrameReturns, CountsPasses}
 use Rattle.agreement.specs.Ours.{Hard, bitFlip, bitFlipping}
-use Rattle.agreement.proofs.Sender.{bytes-all, sent-bytes, sent-meets}
+use Rattle.agreement.proofs.Sender.{sent-bytes, sent-meets}
 use Rattle.agreement.proofs.Limits.{run-counted}
 
 -- a call is accepted, or refused by a number
@@ -52,13 +49,11 @@ module _ (code : ℕ) (b : Hard) (limit : ℕ) where
   module _ (h : bitFlipping .answer code b ≡ 0) where
     pub bit-flip-length : length (bitFlip code b limit .output) ≡ rowOf code .«output_len»
     unfolding decoded
-    bit-flip-length = rw (accepted-is h) (span-length _ 0 (rowOf code .«output_len»))
+    bit-flip-length = rw (accepted-is h) (length-pack _ (rowOf code .«output_len»))
 
     pub bit-flip-bytes : Bytes (bitFlip code b limit .output)
-    unfolding decoded byteOf
-    bit-flip-bytes i l =
-        let k : i < rowOf code .«output_len» = rw bit-flip-length at l in
-        rw (accepted-is h, span-of (byteOf _) (rowOf code .«output_len») i 0 k) (omega arith)
+    unfolding decoded
+    bit-flip-bytes = rw (accepted-is h) (bytes-pack _ (rowOf code .«output_len»))
 
 pub bit-flip-table : DecodesByTable bitFlipping bitFlip
 unfolding decoded decodeWord
@@ -74,7 +69,7 @@ bit-flip-meets code b limit = success-meets code (b .input) (b .output) (b .work
 pub bit-flip-returns : FrameReturns bitFlipping bitFlip
 bit-flip-returns code b limit tc sent h k =
     ap (λ (x : Outcome). told (x .report) (x .output))
-    (clean code (b .input) (b .output) (b .working) limit tc h (bytes-all (b .input) (sent-bytes sent)) (sent-meets sent tc) k)
+    (clean code (b .input) (b .output) (b .working) limit tc h (sent-bytes sent) (sent-meets sent tc) k)
 
 -- the word that the main passes begin with, where there are some
 abbrev begun : ℕ → List ℕ → List ℕ

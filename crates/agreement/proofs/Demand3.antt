@@ -2,7 +2,7 @@
 use mathlib.Core.Bool.{true}
 use mathlib.Core.List.{List}
 use mathlib.Core.Logic.{_⊎_}
-use mathlib.Core.Path.{_≡_, refl, sym, ap, _∙_}
+use mathlib.Core.Path.{_≡_, sym, ap, _∙_}
 use Prim.Native.Nat.{ℕ, _+_, _/_, _%_, _≤_, _<_}
 use native.Mathlib.Omega.{arith}
 use lib.IntN.{ℤ, pos, negsuc}
@@ -111,6 +111,6 @@ module _ {code : ℕ} (tc : TC code) {frame : List ℕ} (sent : Sent code frame)
       → (report .success ≡ true) × (report .iters ≡ 0) × (output ≡ frame)
   unchanged-min-sum answer before llrs w z old working signs limit k {report} {output} e a =
       let b : Soft ℤ = record { llrs = llrs; output = old; working = working; signs = signs } in
-      let same : toHard i8 llrs ≡ frame = rw (llrs-of code frame before w z) (llrs-hard-i8 frame (sender.bytes-all frame (sender.sent-bytes sent))) in
+      let same : toHard i8 llrs ≡ frame = rw (llrs-of code frame before w z) (llrs-hard-i8 frame (sender.sent-bytes sent)) in
       let accepted = sym (min-sum-table i8 code b limit) ∙ sym (ap (λ (x : Outcome ℤ). x .report .answer) e) ∙ a in
       back (ap (λ (x : Outcome ℤ). told (x .report) (x .output)) e ∙ min-sum-returns i8 (steady 127) code b limit tc (rw same sent) accepted k ∙ rw same)

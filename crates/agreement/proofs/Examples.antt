@@ -1,13 +1,14 @@
 -- The examples of document 01 that are marked P: by computing, and by a law where that is dear. Assumes nothing.
 use mathlib.Core.Bool.{true, false}
 use mathlib.Core.List.{List, _++_}
-use mathlib.Core.Path.{_≡_, refl, sym, ap, _∙_, fun-ext}
-use Prim.Native.Nat.{ℕ, _+_, _*_, _/_, _<_}
+use mathlib.Core.Path.{_≡_, refl, ap, _∙_, fun-ext}
+use Prim.Native.Nat.{ℕ, _+_, _/_}
 use native.Mathlib.Omega.{arith}
 use lib.IntN.{ℤ, pos}
-use lib.ListN.{length, getD, replicate, length-replicate, replicate-append-replicate}
+use lib.ListN.{length, replicate, length-replicate, replicate-append-replicate}
 use Rattle.maths.specs.Lists.{span}
 use Rattle.maths.specs.Bytes.{pack}
+use Rattle.maths.proofs.Bytes.{pack-zero}
 use Rattle.codes.specs.Words.{generators}
 use Rattle.codes.specs.Answers.{firstOf}
 use Rattle.codes.specs.Codes.{rows, rowOf}
@@ -21,12 +22,10 @@ use Rattle.bit_flip.proofs.Theorems.{clean, limit-none}
 use Rattle.min_sum.specs.Soft.{clamp, satAdd, satSub, size, below0}
 use Rattle.min_sum.specs.Confidence.{i8}
 use Rattle.min_sum.specs.MinSum.{hardBits}
-use Rattle.min_sum.specs.Hard.{toHard}
 use Rattle.min_sum.specs.Outcomes.{left, decodeAnswer, decodeOutcome}
 use Rattle.min_sum.proofs.Answers.{decode-lent}
 use Rattle.min_sum.proofs.Rows.{fine}
 use Rattle.min_sum.proofs.Marginals.{replicate-at}
-use Rattle.min_sum.proofs.Packed.{packed-zero}
 use Rattle.min_sum.proofs.Success.{at-once, steady}
 use Rattle.agreement.specs.Examples.{zeros, Examples}
 use Rattle.agreement.proofs.Zeros.{zero-bits, zero-meets, zero-frame}
@@ -40,12 +39,12 @@ module _ (old working : List ℕ) (old-long : length old ≡ 16) (working-long :
   flip-once : flip.outcome 0 (zeros 16) old working 1 ≡ flip.left (ending true 0) (zeros 16) (zeros 128)
   unfolding rows
   flip-once =
-      clean 0 (zeros 16) old working 1 (omega arith) flip-accepted (λ i. rw (replicate-at {A = ℕ} 16 0 i) (omega arith))
+      clean 0 (zeros 16) old working 1 (omega arith) flip-accepted (λ i h. rw (replicate-at {A = ℕ} 16 0 i) (omega arith))
       (rw (zero-bits 16) (zero-meets 0)) (omega arith)
 
   flip-never : flip.outcome 0 (zeros 16) old working 0 ≡ flip.left (ending false 0) (zeros 16) (zeros 128)
   unfolding rows
-  flip-never = limit-none 0 (zeros 16) old working flip-accepted (λ i. rw (replicate-at {A = ℕ} 16 0 i) (omega arith))
+  flip-never = limit-none 0 (zeros 16) old working flip-accepted (λ i h. rw (replicate-at {A = ℕ} 16 0 i) (omega arith))
 
 -- ---- min-sum on zero LLRs
 zero-hard : (n : ℕ) → hardBits i8 (replicate n (pos 0)) ≡ (λ v. 0)
@@ -65,7 +64,7 @@ module _ (code : ℕ) (old signs : List ℕ) (working : List ℤ) where
       let bytes : length (replicate (n + p) (pos 0)) / 8 ≡ rowOf code .«output_len» =
       rw (length-replicate (n + p) (pos 0)) (omega (arith, fine code (lent .is-known) .output)) in
       at-once i8 code (replicate n (pos 0)) old working signs 1 (rw long e) (steady 127) (omega arith) (rw (given, zero-hard (n + p)) (zero-meets code))
-      ∙ rw (given, zero-hard (n + p), bytes, packed-zero (rowOf code .«output_len»))
+      ∙ rw (given, zero-hard (n + p), bytes, pack-zero (rowOf code .«output_len»))
 
 pub examples : Examples
 unfolding clamp satAdd satSub size below0 rotated placed span pack rows generators encodedBytes

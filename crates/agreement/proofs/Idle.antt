@@ -23,7 +23,7 @@ use Rattle.agreement.specs.Demands.{Sending, Told, told, Decoder, Receiv
 use Rattle.agreement.specs.Ours.{encoding, copyEncoding, bitFlip, bitFlipping, minSum, minSumming}
 use Rattle.agreement.specs.Examples.{zeros}
 use Rattle.agreement.specs.Idle.{NoIdleEncoder, rests, fails, decodesAlike, renumbered, NoIdleDecoder}
-use Rattle.agreement.proofs.Sender.{bytes-all, sent-bytes, sent-length, sent-meets}
+use Rattle.agreement.proofs.Sender.{sent-bytes, sent-length, sent-meets}
 use Rattle.agreement.proofs.BitFlip.{bit-flip-returns, bit-flip-counts}
 use Rattle.agreement.proofs.MinSum.{min-sum-returns, min-sum-counts}
 use Rattle.agreement.proofs.Passes.{spoilt, hardLent, softLent, spoilt-unmet, flip-misses, flip-moves, soft-accepted, soft-misses, soft-moves}
@@ -178,7 +178,7 @@ soft-receives =
     record {
       lend = softLent;
       accepted = soft-accepted;
-      brings = λ s bytes. llrs-hard-i8 s (bytes-all s bytes);
+      brings = llrs-hard-i8;
       before = λ s. refl;
       misses = soft-misses;
       moves = soft-moves;

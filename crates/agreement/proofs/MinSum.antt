@@ -1,18 +1,16 @@
 -- Min-sum meets the demands on a decoder, on any steady confidences. Assumes nothing.
-use mathlib.Core.Bool.{Bool, true, false}
-use mathlib.Core.List.{List, _++_, append-nil}
+use mathlib.Core.Bool.{true}
+use mathlib.Core.List.{_++_, append-nil}
 use mathlib.Core.Path.{_≡_, refl, sym, ap, _∙_}
-use Prim.Native.Nat.{ℕ, _+_, _*_, _/_, _%_, _≤_, _<_}
+use Prim.Native.Nat.{ℕ, _+_, _%_, _≤_}
 use native.Mathlib.Decide.{ℕ-discrete}
 use native.Mathlib.Omega.{arith}
-use lib.ListN.{length, getD, replicate}
-use Rattle.maths.specs.Tests.{pick}
+use lib.ListN.{length, replicate}
 use Rattle.maths.specs.Bits.{bitAt}
 use Rattle.maths.specs.Bytes.{Bytes}
-use Rattle.maths.specs.Budget.{End, run}
-use Rattle.maths.proofs.Lists.{span-length}
-use Rattle.maths.proofs.Fronts.{span-of}
-use Rattle.codes.specs.Codes.{Known, TC, rowOf, bitsIn, checksIn}
+use Rattle.maths.specs.Budget.{End}
+use Rattle.maths.proofs.Bytes.{length-pack, bytes-pack}
+use Rattle.codes.specs.Codes.{rowOf, checksIn}
 use Rattle.codes.specs.Edges.{edges}
 use Rattle.codes.specs.Equations.{Meets}
 use Rattle.matrices.proofs.Sizes.{tc-bits}
@@ -21,26 +19,16 @@ use Rattle.report.specs.declared.Report.{Report}
 use Rattle.report.specs.Report.{ending}
 use Rattle.min_sum.specs.Confidence.{Confidence, Steady}
 use Rattle.min_sum.specs.MinSum.{Messages, at, hardBits, start, turn, decoded}
-use Rattle.min_sum.specs.Hard.{byteOf, packed, toHard}
-use Rattle.min_sum.specs.Outcomes.{Outcome, decodeAnswer, decodeOutcome, finishedAs}
+use Rattle.min_sum.specs.Hard.{toHard}
+use Rattle.min_sum.specs.Outcomes.{Outcome}
 use Rattle.min_sum.specs.Working.{Lent}
 use Rattle.min_sum.proofs.Answers.{decode-lent, decode-refused}
 use Rattle.min_sum.proofs.Rows.{fine}
-use Rattle.min_sum.proofs.Packed.{packed-length}
 use Rattle.min_sum.proofs.Success.{sized-state, accepted-is, says-true, at-once, given-bit}
-use Rattle.agreement.specs.Demands.{Told, told, Counted, DecodesByTable, SuccessMeets, FrameReturns, CountsPasses}
+use Rattle.agreement.specs.Demands.{told, DecodesByTable, SuccessMeets, FrameReturns, CountsPasses}
 use Rattle.agreement.specs.Ours.{Soft, minSum, minSumming}
 use Rattle.agreement.proofs.Sender.{sent-meets}
 use Rattle.agreement.proofs.Limits.{run-number, run-counted}
-
--- packed bits are bytes
-bytes-packed : (f : ℕ → ℕ) (n : ℕ) → ((i : ℕ) → f i < 2) → Bytes (packed f n)
-unfolding packed
-bytes-packed f n low i h =
-    let k : i < n = rw (span-length (λ j. byteOf f (8 * j)) 0 n) at h in
-    let a = 8 * i in
-    rw (span-of (λ j. byteOf f (8 * j)) n i 0 k)
-    (omega (arith, low a, low (a + 1), low (a + 2), low (a + 3), low (a + 4), low (a + 4 + 1), low (a + 4 + 2), low (a + 4 + 3)))
 
 module _ {C : Type 0} (o : Confidence C) where
   pub min-sum-table : DecodesByTable (minSumming o) (minSum o)
@@ -67,15 +55,11 @@ module _ {C : Type 0} (o : Confidence C) where
 
       -- the output is bytes, as many as the code has
       pub min-sum-bytes : Bytes (minSum o code b limit .output)
-      min-sum-bytes = rw output-is (bytes-packed (hardBits o (ran limit .state .marginals)) _ (λ i. low (o .hard (at o (ran limit .state .marginals) i))))
-        where
-          low : (x : Bool) → pick x 1 0 < 2
-          low true = omega arith
-          low false = omega arith
+      min-sum-bytes = rw output-is (bytes-pack (hardBits o (ran limit .state .marginals)) _)
 
       pub min-sum-length : length (minSum o code b limit .output) ≡ rowOf code .«output_len»
       min-sum-length =
-          rw output-is (packed-length (hardBits o (ran limit .state .marginals)) _
+          rw output-is (length-pack (hardBits o (ran limit .state .marginals)) _
           ∙ rw (sized-state o code (b .llrs) limit (lent .is-known) (lent .llrs-long)) (omega (arith, fine code (lent .is-known) .output)))
 
     module _ (e : minSum o code b limit .report .success ≡ true) where

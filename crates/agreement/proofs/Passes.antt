@@ -13,11 +13,11 @@ use lib.ListN.{length, replicate}
 use Rattle.maths.specs.Tests.{pick}
 use Rattle.maths.specs.Lists.{span, fold, largestOf}
 use Rattle.maths.specs.Bits.{bitAt}
+use Rattle.maths.specs.Bytes.{pack}
 use Rattle.maths.specs.Budget.{Turn, stop, go, End, end, run}
 use Rattle.maths.proofs.Lists.{span-length}
 use Rattle.maths.proofs.Slices.{span-get}
-use Rattle.bits.specs.Packed.{byteOf}
-use Rattle.bits.proofs.Packed.{packed-at}
+use Rattle.maths.proofs.Bytes.{bitAt-pack}
 use Rattle.codes.specs.Tables.{prototypes, thetas, phis}
 use Rattle.codes.specs.Codes.{rows, tables}
 use Rattle.codes.specs.Blocks.{blockOf, cellBlocks, rowBlocks, lastRows}
@@ -40,7 +40,7 @@ use Rattle.min_sum.specs.Hard.{toHard, toLlrs}
 use Rattle.min_sum.specs.Outcomes.{Outcome, decodeAnswer}
 use Rattle.min_sum.proofs.Conversions.{llrs-length, llrs-bits-i8}
 use Rattle.min_sum.proofs.Marginals.{pass-length, first-hard}
-use Rattle.min_sum.proofs.Packed.{packed-bit}
+use Rattle.min_sum.proofs.Packed.{hard-bit}
 use Rattle.min_sum.proofs.Success.{accepted-is, steady}
 use Rattle.agreement.specs.Demands.{Told, told}
 use Rattle.agreement.specs.Ours.{Hard, bitFlip, Soft, minSum, minSumming}
@@ -171,7 +171,7 @@ flip-says : (limit : ℕ) → bitFlip 0 (hardLent spoilt) limit .report .success
 unfolding flip.outcome flip.decoded flip.decodeWord erasurePasses rows
 flip-says limit = refl
 
-flip-leaves : (limit : ℕ) → bitFlip 0 (hardLent spoilt) limit .output ≡ span (byteOf (flips limit .state)) 0 16
+flip-leaves : (limit : ℕ) → bitFlip 0 (hardLent spoilt) limit .output ≡ pack (wordOf (flips limit .state)) 16
 unfolding flip.outcome flip.decoded flip.decodeWord erasurePasses rows
 flip-leaves limit = refl
 
@@ -183,11 +183,11 @@ flip-moves same =
     let u = flipped (edges 0) word in
     let one : flips 1 .state ≡ u = ap (λ (x : End (List ℕ)). x .state) (run-once (pass (edges 0) 64) (goes word word-unmet)) in
     let two : flips 2 .state ≡ flipped (edges 0) u = run-twice (pass (edges 0) 64) (goes word word-unmet) false (goes u flipped-unmet) in
-    let e : span (byteOf u) 0 16 ≡ span (byteOf (flipped (edges 0) u)) 0 16 =
-    ap (λ (w : List ℕ). span (byteOf w) 0 16) (sym one) ∙ sym (flip-leaves 1) ∙ same ∙ flip-leaves 2 ∙ ap (λ (w : List ℕ). span (byteOf w) 0 16) two in
+    let e : pack (wordOf u) 16 ≡ pack (wordOf (flipped (edges 0) u)) 16 =
+    ap (λ (w : List ℕ). pack (wordOf w) 16) (sym one) ∙ sym (flip-leaves 1) ∙ same ∙ flip-leaves 2 ∙ ap (λ (w : List ℕ). pack (wordOf w) 16) two in
     let long : length u ≡ 128 = flipped-length (edges 0) word ∙ word-long in
     flipped-moves (edges 0) u 127 long (flipped-bits (edges 0) word (received-bits spoilt _ refl))
-    (λ v h. sym (packed-at 16 (flipped (edges 0) u) v (omega arith)) ∙ ap (λ (s : List ℕ). bitAt s v) (sym e) ∙ packed-at 16 u v (omega arith))
+    (λ v h. sym (bitAt-pack (wordOf (flipped (edges 0) u)) 16 v (omega arith)) ∙ ap (λ (s : List ℕ). bitAt s v) (sym e) ∙ bitAt-pack (wordOf u) 16 v (omega arith))
 
 -- ---- min-sum: its LLRs, the messages before a pass and after, and the run
 abbrev llrs : List ℤ
@@ -232,12 +232,7 @@ soft-misses = ap (λ (x : Told). x .report .success) (soft-is 1) ∙ ap (λ (x :
 -- bit 0 of the output after a pass
 hard-first : (s : soft.Messages ℤ) → bitAt (toHard i8 (next s .marginals)) 0 ≡ soft.hardBits i8 (next s .marginals) 0
 hard-first s =
-    packed-bit (soft.hardBits i8 (next s .marginals)) _ 0 (λ j. low (i8 .hard (soft.at i8 (next s .marginals) j)))
-    (omega (arith, pass-length i8 (edges 0) 64 0 llrs s, llrs-length i8 (negsuc 0) (pos 1) spoilt))
-  where
-    low : (b : Bool) → pick b 1 0 < 2
-    low true = omega arith
-    low false = omega arith
+    hard-bit i8 (next s .marginals) _ 0 (omega (arith, pass-length i8 (edges 0) 64 0 llrs s, llrs-length i8 (negsuc 0) (pos 1) spoilt))
 
 pub soft-moves : minSum i8 0 (softLent spoilt) 1 .output ≡ minSum i8 0 (softLent spoilt) 2 .output → ⊥
 unfolding soft.turn

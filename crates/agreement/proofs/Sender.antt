@@ -3,11 +3,10 @@ use mathlib.Core.Bool.{Bool, true, false, not}
 use mathlib.Core.List.{List}
 use mathlib.Core.Path.{_≡_, refl, sym, ap, _∙_}
 use Prim.Native.Nat.{ℕ, suc, _/_, _≤_, _<_}
-use native.Mathlib.Decide.{decLt}
 use native.Mathlib.Omega.{arith}
 use borrow.Author.Tests.{ltb-true, eqb-true, eq-eqb, not-false}
 use lib.Dec.{eqb, ltb}
-use lib.ListN.{length, getD, take, length-take, List·getD-eq-default}
+use lib.ListN.{length, take, length-take}
 use lib.Seq.{length-take-le, getD-take}
 use Rattle.maths.specs.Tests.{pick}
 use Rattle.maths.specs.Bits.{bitAt}
@@ -93,13 +92,6 @@ bytes-take : (n : ℕ) (s : List ℕ) → length (take n s) ≡ n → Bytes s �
 bytes-take n s e b i l =
     let k : i < n = omega arith in
     rw (getD-take n s i 0 k) (b i (omega (arith, length-take n s)))
-
-pub bytes-all : (s : List ℕ) → Bytes s → (i : ℕ) → getD s i 0 < 256
-bytes-all s h i = by (decLt i (length s))
-  where
-    by : Dec (i < length s) → getD s i 0 < 256
-    by (yes l) = h i l
-    by (no l) = let k : length s ≤ i = omega arith in rw (List·getD-eq-default s 0 k) (omega arith)
 
 -- what stands in the codeword is the frame
 stands : {code a : ℕ} {m frame : List ℕ} {x : Encoded} → encoded a frame ≡ x → Frames code m (x .codeword) → Frames code m frame

@@ -1,16 +1,12 @@
 -- The zero word: it meets every equation, and is the frame of zero data. Assumes nothing.
-use mathlib.Core.List.{List, _++_}
-use mathlib.Core.Path.{_≡_, refl, sym, ap, _∙_, fun-ext}
-use Prim.Native.Nat.{ℕ, _+_, _-_, _*_, _/_, _%_, _^_, _≤_, _<_}
+use mathlib.Core.Path.{_≡_, ap, _∙_, fun-ext}
+use Prim.Native.Nat.{ℕ, _+_, _-_, _*_, _/_, _%_, _^_}
 use native.Mathlib.Nat.{zero-div, zero-mul}
 use native.Mathlib.Omega.{arith}
-use lib.ListN.{length, replicate, replicate-append-replicate}
-use Rattle.maths.specs.Lists.{span}
-use Rattle.maths.specs.Sums.{sumN}
+use lib.ListN.{replicate-append-replicate}
 use Rattle.maths.specs.Bits.{bitAt}
-use Rattle.maths.specs.Bytes.{byte, pack}
 use Rattle.maths.proofs.Sums.{sumL-zero, sumN-zero, sumN-ext}
-use Rattle.maths.proofs.Fronts.{span-one}
+use Rattle.maths.proofs.Bytes.{pack-zero}
 use Rattle.codes.specs.Codes.{Known, rowOf}
 use Rattle.codes.specs.Edges.{edges}
 use Rattle.codes.specs.Equations.{bitsOf, Meets}
@@ -33,13 +29,9 @@ zero-parity code =
     (sumN-ext (rowOf code .k) (λ i. 0 * adds (circulantOf code) (generator code) i j) (λ i. 0) (λ i h. zero-mul (adds (circulantOf code) (generator code) i j))
     ∙ sumN-zero (rowOf code .k)))
 
-zero-pack : (n : ℕ) → pack (λ j. 0) n ≡ zeros n
-unfolding pack
-zero-pack n = span-one {A = ℕ} 0 0 n
-
 pub zero-frame : (code : ℕ) → Known code → encodedBytes code (zeros (rowOf code .k / 8)) ≡ zeros (rowOf code .n / 8)
 unfolding encodedBytes
 zero-frame code h =
     let s = sizes code h in
     let n : rowOf code .k / 8 + parityBytes code ≡ rowOf code .n / 8 = omega (arith, s .data-bytes, s .parity-bytes, s .data-fits) in
-    rw (zero-bits (rowOf code .k / 8), zero-parity code, zero-pack (parityBytes code), ← n) (replicate-append-replicate {A = ℕ} (rowOf code .k / 8) (parityBytes code) 0)
+    rw (zero-bits (rowOf code .k / 8), zero-parity code, pack-zero (parityBytes code), ← n) (replicate-append-replicate {A = ℕ} (rowOf code .k / 8) (parityBytes code) 0)

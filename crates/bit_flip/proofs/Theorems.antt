@@ -3,24 +3,25 @@
 --     clean             a TC word that meets the equations is returned as it is, at pass 0
 --     limit-none        without an iteration the output is the input followed by zeros
 use mathlib.Core.Bool.{Bool, true, false}
-use mathlib.Core.List.{List, [], _∷_, _++_}
-use mathlib.Core.Path.{_≡_, refl, sym, ap, subst, _∙_, fun-ext}
-use Prim.Native.Nat.{ℕ, zero, suc, _+_, _-_, _*_, _/_, _%_, _≤_, _<_}
+use mathlib.Core.List.{List, _++_}
+use mathlib.Core.Path.{_≡_, refl, sym, subst, _∙_, fun-ext}
+use Prim.Native.Nat.{ℕ, _+_, _-_, _*_, _/_, _≤_, _<_}
+use native.Mathlib.Nat.{mod-eq-of-lt}
 use native.Mathlib.Decide.{decLt}
 use native.Mathlib.Omega.{arith}
 use borrow.Author.Tests.{eqb-true, eq-eqb, ltb-true, lt-ltb}
 use lib.Dec.{eqb, ltb}
-use lib.ListN.{length, getD, replicate, List·getD-eq-default}
+use lib.ListN.{length, replicate, List·getD-eq-default}
 use Rattle.maths.specs.Tests.{pick, both}
 use Rattle.maths.specs.Bits.{bitAt}
+use Rattle.maths.specs.Bytes.{Bytes, pack}
 use Rattle.maths.specs.Lists.{span}
-use Rattle.maths.specs.Budget.{Turn, stop, go, End, end, run}
+use Rattle.maths.specs.Budget.{stop, go, run}
 use Rattle.maths.proofs.Tests.{pick-both}
 use Rattle.maths.proofs.Lists.{span-length}
 use Rattle.maths.proofs.Slices.{span-get, span-padded}
+use Rattle.maths.proofs.Bytes.{bitAt-past, length-pack, bitAt-pack, pack-own, pack-again}
 use Rattle.maths.proofs.Budget.{run-success, run-kept, run-at-once}
-use Rattle.bits.specs.Packed.{byteOf}
-use Rattle.bits.proofs.Packed.{bit-low, bit-past, packed-at, packed-bytes, packed-again}
 use Rattle.codes.specs.Answers.{firstOf}
 use Rattle.codes.specs.Codes.{codes, Known, TC, known, rowOf, bitsIn, checksIn}
 use Rattle.codes.specs.Edges.{Edge, edges}
@@ -29,21 +30,21 @@ use Rattle.codes.proofs.Codes.{roomy, tc-sent}
 use Rattle.codes.proofs.Parity.{holds-hold, hold-holds}
 use Rattle.report.specs.Report.{refusal, ending}
 use Rattle.bit_flip.specs.Flip.{flipped, pass, passes}
-use Rattle.bit_flip.specs.Erasures.{voted, Filled, erasurePasses}
-use Rattle.bit_flip.specs.Outcome.{Outcome, left, decodeWord, received, punctured, decoded, tests, outcome}
+use Rattle.bit_flip.specs.Erasures.{voted, erasurePasses}
+use Rattle.bit_flip.specs.Outcome.{left, decodeWord, received, punctured, decoded, tests, outcome}
 use Rattle.bit_flip.specs.Steps.{Bits}
-use Rattle.bit_flip.proofs.Scores.{span-bits, flipped-length, flipped-bits}
+use Rattle.bit_flip.proofs.Scores.{flipped-length, flipped-bits}
 use Rattle.bit_flip.proofs.Votes.{no-bits, no-limit}
 use Rattle.bit_flip.proofs.Whole.{received-bits, voted-length, filled-bits}
 
 -- ---- bits as bytes: the same word
-packed-word : (w : List ℕ) (n : ℕ) → length w ≡ 8 * n → Bits w → bitAt (span (byteOf w) 0 n) ≡ wordOf w
-packed-word w n e bits = fun-ext (λ v. at v (decLt v (8 * n)))
+packed-word : (w : List ℕ) (n : ℕ) → length w ≡ 8 * n → Bits w → bitAt (pack (wordOf w) n) ≡ wordOf w
+packed-word w n e bits = fun-ext (λ v. at v (decLt v (n * 8)))
   where
-    at : (v : ℕ) → Dec (v < 8 * n) → bitAt (span (byteOf w) 0 n) v ≡ wordOf w v
-    at v (yes h) = packed-at n w v h ∙ omega (arith, bits v)
+    at : (v : ℕ) → Dec (v < n * 8) → bitAt (pack (wordOf w) n) v ≡ wordOf w v
+    at v (yes h) = bitAt-pack (wordOf w) n v h ∙ mod-eq-of-lt (bits v)
     at v (no h) =
-        bit-past (span (byteOf w) 0 n) v (omega (arith, span-length (byteOf w) 0 n)) ∙ sym (List·getD-eq-default w 0 (omega arith))
+        bitAt-past (pack (wordOf w) n) v (omega (arith, length-pack (wordOf w) n)) ∙ sym (List·getD-eq-default w 0 (omega arith))
 
 -- ---- a pass: what it stops with, and what it keeps
 module _ (es : List Edge) (m : ℕ) where
@@ -163,17 +164,13 @@ received-word s t h = fun-ext (λ v. at v (decLt v t))
     at : (v : ℕ) → Dec (v < t) → wordOf (span (bitAt s) 0 t) v ≡ bitAt s v
     at v (yes k) = span-get (bitAt s) 0 t v k
     at v (no k) =
-        List·getD-eq-default (span (bitAt s) 0 t) 0 (omega (arith, span-length (bitAt s) 0 t)) ∙ sym (bit-past s v (omega arith))
-
--- every element is a byte
-abbrev pub Bytes : List ℕ → Type 0
-Bytes s = (i : ℕ) → getD s i 0 < 256
+        List·getD-eq-default (span (bitAt s) 0 t) 0 (omega (arith, span-length (bitAt s) 0 t)) ∙ sym (bitAt-past s v (omega arith))
 
 -- "on a TC word that meets the equations, with maxiters at least 1, it answers (true, 0) and the word"
 pub clean : (code : ℕ) (input output working : List ℕ) (limit : ℕ) → TC code → answerOf code input output working ≡ 0 → Bytes input
     → Meets code (bitAt input) → 1 ≤ limit → outcome code input output working limit ≡ left (ending true 0) input (replicate (bitsIn code) 0)
 unfolding decoded decodeWord
-clean code input output working limit tc e low meets h =
+clean code input output working limit tc e bytes meets h =
     let k = accepted-known code input output working limit e in
     let i = accepted-input code input output working limit e in
     let r = roomy code k in
@@ -185,16 +182,17 @@ clean code input output working limit tc e low meets h =
     let p : pass (edges code) (checksIn code) (received code input) ≡ stop (received code input) =
     clean-pass (edges code) (checksIn code) (received code input) (rw w (hold-holds (edges code) (checksIn code) (bitAt input) meets)) in
     is-accepted code input output working limit e
-    ∙ rw (f, run-at-once (pass (edges code) (checksIn code)) limit (received code input) (received code input) h p, o, packed-again input (bitsIn code) low (omega arith))
+    ∙ rw (f, run-at-once (pass (edges code) (checksIn code)) limit (received code input) (received code input) h p, o, w, pack-again input bytes)
 
 -- "With maxiters 0: (false, 0), the input followed by zeros", whatever the input
 pub limit-none : (code : ℕ) (input output working : List ℕ) → answerOf code input output working ≡ 0 → Bytes input
     → outcome code input output working 0 ≡ left (ending false 0) (input ++ replicate (rowOf code .«output_len» - length input) 0) (replicate (bitsIn code) 0)
 unfolding decoded decodeWord run
-limit-none code input output working e low =
+limit-none code input output working e bytes =
     let k = accepted-known code input output working 0 e in
     let i = accepted-input code input output working 0 e in
     let r = roomy code k in
     let f = sym (no-limit (punctured code) (edges code) (rowOf code .«punctured_bits») 0 (received code input) refl) in
+    let w : wordOf (received code input) ≡ bitAt input = received-word input (bitsIn code) (omega (arith, r .sent)) in
     is-accepted code input output working 0 e
-    ∙ rw (f, packed-bytes input (bitsIn code) (rowOf code .«output_len») low (omega (arith, r .whole)), span-padded input (rowOf code .«output_len») (omega (arith, r .whole, r .sent)))
+    ∙ rw (f, w, pack-own input (rowOf code .«output_len») bytes, span-padded input (rowOf code .«output_len») (omega (arith, r .whole, r .sent)))

@@ -1,8 +1,8 @@
 -- From the bytes of a call to the outcome of the definition. Assumes nothing.
-use mathlib.Core.Bool.{Bool, true, false, not}
-use mathlib.Core.List.{List, [], _∷_, _++_}
+use mathlib.Core.Bool.{Bool, true, false}
+use mathlib.Core.List.{List}
 use mathlib.Core.Path.{_≡_, sym, ap, subst, _∙_}
-use Prim.Native.Nat.{ℕ, zero, suc, _+_, _-_, _*_, _/_, _≤_, _<_}
+use Prim.Native.Nat.{ℕ, _+_, _-_, _*_, _/_, _≤_, _<_}
 use native.Mathlib.Decide.{decLt}
 use native.Mathlib.Omega.{arith}
 use borrow.Author.Tests.{eq-eqb, ne-eqb, lt-ltb, le-leb, lt-leb}
@@ -10,15 +10,16 @@ use lib.Dec.{eqb, ltb, leb}
 use lib.ListN.{length, replicate}
 use Rattle.maths.specs.Tests.{pick, both}
 use Rattle.maths.specs.Bits.{bitAt}
+use Rattle.maths.specs.Bytes.{pack}
 use Rattle.maths.specs.Lists.{span}
 use Rattle.maths.specs.Budget.{end}
 use Rattle.maths.proofs.Tests.{pick-both}
 use Rattle.maths.proofs.Lists.{span-length, span-ext}
 use Rattle.maths.proofs.Slices.{overwrite-at}
-use Rattle.bits.specs.Packed.{wholeBytes, byteOf, unpacked}
-use Rattle.bits.proofs.Packed.{bit-low, bit-past}
+use Rattle.maths.proofs.Bytes.{bitAt-low, bitAt-past}
+use Rattle.bits.specs.Packed.{wholeBytes, unpacked}
 use Rattle.codes.specs.declared.ParamsAnswer.{ParamsAnswer}
-use Rattle.codes.specs.Codes.{codes, Known, known, rowOf, paramsOf, bitsIn, checksIn}
+use Rattle.codes.specs.Codes.{codes, known, rowOf, paramsOf, bitsIn, checksIn}
 use Rattle.codes.specs.Edges.{Edge, edges}
 use Rattle.codes.specs.Runs.{runs, numbers, laid}
 use Rattle.codes.specs.Equations.{wordOf}
@@ -42,10 +43,10 @@ received-by s d n e h {b} eb el eb′ =
   where
     go : (v : ℕ) → Dec (v < n) → pick (leb n v) 0 (wordOf b v) ≡ bitAt s v
     go v (yes l) = rw (lt-leb n v l, eb) (overwrite-at (bitAt s) d (8 * wholeBytes (length s) (length d)) v (omega arith))
-    go v (no l) = rw (le-leb n v (omega arith)) (sym (bit-past s v (omega arith)))
+    go v (no l) = rw (le-leb n v (omega arith)) (sym (bitAt-past s v (omega arith)))
 
 pub received-bits : (s : List ℕ) (t : ℕ) {b : List ℕ} → b ≡ span (bitAt s) 0 t → Bits b
-received-bits s t e = rw e (span-bits (bitAt s) (bit-low s) t)
+received-bits s t e = rw e (span-bits (bitAt s) (bitAt-low s) t)
 
 -- ---- what the erasure passes keep, and count
 pub voted-length : (erased : ℕ → Bool) (es : List Edge) (w : List ℕ) → length (voted erased es w) ≡ length w
@@ -105,7 +106,7 @@ module _ {code n m i o t : ℕ} (a : Accepted code n m i o t) where
   light-by ns en ek v = rw (edges-are ns en ek) (omega (arith, light code v))
 
   pub decoded-by : (input ns : List ℕ) (limit k : ℕ) {w w′ out : List ℕ} {r : Report} → ns ≡ numbers (runs code) → k ≡ m
-      → decodedTo r w ≡ decodeWord (laid k t ns) k (fromOn n t) (t - n) limit (span (bitAt input) 0 t) → out ≡ span (byteOf w) 0 o → w′ ≡ replicate t 0
+      → decodedTo r w ≡ decodeWord (laid k t ns) k (fromOn n t) (t - n) limit (span (bitAt input) 0 t) → out ≡ pack (wordOf w) o → w′ ≡ replicate t 0
       → left r out w′ ≡ decoded code input limit
   unfolding decoded
   decoded-by input ns limit k en ek ed eo ew =

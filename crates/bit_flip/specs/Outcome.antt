@@ -7,10 +7,11 @@ use lib.ListN.{length, replicate}
 use Rattle.maths.specs.Tests.{pick}
 use Rattle.maths.specs.Lists.{span}
 use Rattle.maths.specs.Bits.{bitAt}
-use Rattle.bits.specs.Packed.{byteOf}
+use Rattle.maths.specs.Bytes.{pack}
 use Rattle.codes.specs.Answers.{Test, test, firstOf, unlike}
 use Rattle.codes.specs.Codes.{known, rowOf, bitsIn, checksIn}
 use Rattle.codes.specs.Edges.{Edge, edges}
+use Rattle.codes.specs.Equations.{wordOf}
 use Rattle.report.specs.declared.Report.{Report}
 use Rattle.report.specs.Report.{refusal, ending}
 use Rattle.bit_flip.specs.Flip.{passes}
@@ -52,7 +53,7 @@ punctured code = fromOn (rowOf code .n) (bitsIn code)
 unfoldable pub decoded : ℕ → List ℕ → ℕ → Outcome
 decoded code input limit =
     let d = decodeWord (edges code) (checksIn code) (punctured code) (rowOf code .«punctured_bits») limit (received code input) in
-    left (d .report) (span (byteOf (d .word)) 0 (rowOf code .«output_len»)) (replicate (bitsIn code) 0)
+    left (d .report) (pack (wordOf (d .word)) (rowOf code .«output_len»)) (replicate (bitsIn code) 0)
 
 -- the tests of a call with buffers of these lengths, in order
 abbrev pub tests : ℕ → ℕ → ℕ → ℕ → List Test

@@ -1,10 +1,11 @@
 // Byte strings as one byte for a bit, the highest bit of a byte first.
 ghost use mathlib.Core.Path.{_≡_};
 ghost use Prim.Native.Nat.{_+_, _≤_, max};
-ghost use lib.ListN.{length, replicate};
+ghost use lib.ListN.{length, getD, replicate};
 ghost use lib.Seq.{sets};
 ghost use Rattle.maths.specs.Lists.{largestOf};
-ghost use Rattle.bits.specs.Packed.{wholeBytes, eight, byteFrom, unpacked, packed};
+ghost use Rattle.maths.specs.Bytes.{byte};
+ghost use Rattle.bits.specs.Packed.{wholeBytes, eight, unpacked, packed};
 
 // How many whole bytes both have room for.
 fn whole_bytes(bytes: usize, bits: usize) -> usize
@@ -37,9 +38,10 @@ pub fn unpack(bytes: &[u8], bits: &mut [u8])
     }
 }
 
+// The byte of the bits from v on.
 fn pack_byte(bits: &[u8], v: usize) -> u8
     requires { ⌜ v + 8 ≤ length (now bits) ⌝ }
-    ensures { λ r. ⌜ r ≡ byteFrom (now (bits .entry)) v ⌝ }
+    ensures { λ r. ⌜ r ≡ byte (λ t. getD (now (bits .entry)) (v + t) 0) 0 ⌝ }
 {
     bits[v] % 2 * 128
         + bits[v + 1] % 2 * 64

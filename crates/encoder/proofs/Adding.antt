@@ -9,11 +9,11 @@ use lib.Bits.{bitXor, xor-lt}
 use lib.ListN.{length, getD, set}
 use Rattle.maths.specs.Bits.{bitAt}
 use Rattle.maths.specs.Bytes.{byte}
-use Rattle.maths.proofs.Bytes.{bitAt-low}
+use Rattle.maths.proofs.Bytes.{bitAt-low, bit-of, byte-is}
 use Rattle.matrices.specs.Frames.{generatorBit}
 use Rattle.encoder.specs.Rotation.{placed, bitsFrom}
 use Rattle.encoder.specs.Rows.{added, wordBit, rowsAt}
-use Rattle.encoder.proofs.Packed.{bit-of, byte-is, xor-bit, word-bit}
+use Rattle.encoder.proofs.Packed.{xor-bit, word-bit}
 use Rattle.encoder.proofs.Placed.{length-placed, bit-before, bit-within, placed-again, placed-ext, placed-same, Grown, grown-byte, grown-more, grown-bit, grown-next}
 
 -- the bits of s from byte at on, with f added

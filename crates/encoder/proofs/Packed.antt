@@ -1,34 +1,15 @@
--- Bytes made of bits: by their parts, by their bits, and of a sum modulo 2. Assumes nothing.
+-- Bytes made of bits: by their parts, and of a sum modulo 2. Assumes nothing.
 use mathlib.Core.List.{List, [], _∷_, _++_}
 use mathlib.Core.Path.{_≡_, refl, ap, _∙_}
 use Prim.Native.Nat.{ℕ, zero, suc, _+_, _-_, _*_, _/_, _%_, _^_, _<_}
 use native.Mathlib.Nat.{zero-add}
 use native.Mathlib.Omega.{arith}
-use lib.Arith.{digits-div, digits-mod}
 use lib.Bits.{bitXor, xor-shr, xor-add-and}
-use lib.ListN.{getD}
 use lib.Pow.{shr-shr}
 use Rattle.maths.specs.Lists.{span}
-use Rattle.maths.specs.Bits.{bitAt}
 use Rattle.maths.specs.Bytes.{byte, pack}
 use Rattle.maths.proofs.Lists.{span-split, span-ext}
-use Rattle.maths.proofs.Sums.{sumN-ext}
-use Rattle.maths.proofs.Bytes.{bits-byte}
-
--- bit t of byte i of a string
-pub bit-of : (s : List ℕ) (i t : ℕ) → t < 8 → bitAt s (i * 8 + t) ≡ getD s i 0 / 2 ^ (7 - t) % 2
-bit-of s i t h = rw (digits-div i {m = 8} {r = t} h, digits-mod i {m = 8} {r = t} h)
-
--- ---- a byte of bits
-pub byte-ext : (f g : ℕ → ℕ) (i j : ℕ) → ((t : ℕ) → t < 8 → f (i * 8 + t) % 2 ≡ g (j * 8 + t) % 2) → byte f i ≡ byte g j
-byte-ext f g i j h =
-    sumN-ext 8 (λ t. f (i * 8 + t) % 2 * 2 ^ (7 - t)) (λ t. g (j * 8 + t) % 2 * 2 ^ (7 - t)) (λ t l. ap (λ (x : ℕ). x * 2 ^ (7 - t)) (h t l))
-
--- the byte that has these bits
-pub byte-is : (f : ℕ → ℕ) (i v : ℕ) → v < 256 → ((t : ℕ) → t < 8 → f (i * 8 + t) % 2 ≡ v / 2 ^ (7 - t) % 2) → byte f i ≡ v
-byte-is f i v low h =
-    sumN-ext 8 (λ t. f (i * 8 + t) % 2 * 2 ^ (7 - t)) (λ t. v / 2 ^ (7 - t) % 2 * 2 ^ (7 - t)) (λ t l. ap (λ (x : ℕ). x * 2 ^ (7 - t)) (h t l))
-    ∙ bits-byte v low
+use Rattle.maths.proofs.Bytes.{byte-ext}
 
 -- ---- bytes of bits, one after the other
 pub pack-ext : (f g : ℕ → ℕ) (n : ℕ) → ((j : ℕ) → j < n * 8 → f j % 2 ≡ g j % 2) → pack f n ≡ pack g n

@@ -10,9 +10,9 @@ use lib.Seq.{length-take-le, take-append-le, take-take, take-at, drop-append-add
 use Rattle.maths.specs.Lists.{span}
 use Rattle.maths.specs.Bits.{bitAt}
 use Rattle.maths.specs.Bytes.{byte, pack}
-use Rattle.maths.proofs.Bytes.{length-pack, bitAt-pack, bitAt-left, bitAt-right}
+use Rattle.maths.proofs.Bytes.{bit-of, byte-is, length-pack, bitAt-pack, bitAt-left, bitAt-right}
 use Rattle.encoder.specs.Rotation.{placed, bitsFrom}
-use Rattle.encoder.proofs.Packed.{bit-of, byte-is, pack-ext, pack-split, pack-one, pack-last}
+use Rattle.encoder.proofs.Packed.{pack-ext, pack-split, pack-one, pack-last}
 
 module _ (s : List ℕ) (at len : ℕ) (fit : at + len ≤ length s) where
   length-head : (f : ℕ → ℕ) → length (take at s ++ pack f len) ≡ at + len

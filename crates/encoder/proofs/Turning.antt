@@ -9,8 +9,8 @@ use lib.Bits.{bitOr, or-shifted}
 use lib.ListN.{length, getD, set, length-set}
 use Rattle.maths.specs.Bits.{bitAt}
 use Rattle.maths.specs.Bytes.{byte}
+use Rattle.maths.proofs.Bytes.{bit-of, byte-ext, byte-is}
 use Rattle.encoder.specs.Rotation.{placed, bitsFrom, turned, rotated}
-use Rattle.encoder.proofs.Packed.{bit-of, byte-ext, byte-is}
 use Rattle.encoder.proofs.Placed.{placed-none, placed-first, placed-ext, byte-before}
 
 -- a byte moved on by one bit, with a bit carried in

@@ -1,5 +1,5 @@
 -- What the functions for other languages leave behind: the library's own outcomes, with the report in numbers. Assumes nothing.
-use mathlib.Core.Bool.{Bool, not}
+use mathlib.Core.Bool.{not}
 use mathlib.Core.List.{List, [], _∷_}
 use Prim.Native.Nat.{ℕ}
 use lib.Dec.{eqb}
@@ -9,6 +9,7 @@ use Rattle.maths.specs.Tests.{pick}
 use Rattle.codes.specs.declared.CodeParams.{CodeParams}
 use Rattle.codes.specs.Answers.{test, firstOf, unlike}
 use Rattle.codes.specs.Codes.{known, rowOf}
+use Rattle.report.specs.Report.{flag}
 use Rattle.bit_flip.specs.Outcome as flips
 use Rattle.min_sum.specs.Outcomes.{Outcome}
 
@@ -29,10 +30,6 @@ row n xs = record { answer = n; numbers = xs }
 abbrev pub paramsOutcome : ℕ → List ℕ → Row
 paramsOutcome code to =
     row (firstOf (test (not (known code)) 1 ∷ test (unlike (length to) 10) 3 ∷ [])) (pick (eqb (length to) 10) (numbers (rowOf code)) to)
-
--- success as a number
-abbrev pub flag : Bool → ℕ
-flag b = pick b 1 0
 
 -- what bit flipping leaves
 pub record Hard : Type 0 where

@@ -3,12 +3,12 @@
 ghost use mathlib.Core.Path.{_≡_};
 ghost use lib.IntN.{pos, negsuc};
 ghost use lib.ListN.{length};
-ghost use Rattle.maths.specs.Tests.{pick};
 ghost use Rattle.encoder.specs.Outcomes.{encoded, encodeOutcome, copyEncodeOutcome};
+ghost use Rattle.report.specs.Report.{flag};
 ghost use Rattle.bit_flip.specs.Outcome.{outcome};
 ghost use Rattle.min_sum.specs.Confidence.{i8};
 ghost use Rattle.min_sum.specs.Outcomes.{written, toLlrsOutcome, toHardOutcome, decodeOutcome};
-ghost use Rattle.labrador_ldpc.specs.Doors.{numbers, row, paramsOutcome, flag, hard, hardDoor, soft, softDoor};
+ghost use Rattle.labrador_ldpc.specs.Doors.{numbers, row, paramsOutcome, hard, hardDoor, soft, softDoor};
 use codes::ACCEPTED;
 use codes::CodeParams;
 use codes::WRONG_WRITTEN;

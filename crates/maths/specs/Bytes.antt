@@ -13,6 +13,6 @@ Bytes s = (i : ℕ) → i < length s → getD s i 0 < 256
 abbrev pub byte : (ℕ → ℕ) → ℕ → ℕ
 byte f j = sumN 8 (λ i. f (j * 8 + i) % 2 * 2 ^ (7 - i))
 
--- the first n bytes of the bits f
+-- the first n bytes of the bits f: "Bit i of a byte string is bit 7-(i mod 8) of byte i div 8."
 unfoldable pub pack : (ℕ → ℕ) → ℕ → List ℕ
 pack f n = span (byte f) 0 n

@@ -1,5 +1,5 @@
--- The two kinds of report. Assumes nothing.
-use mathlib.Core.Bool.{Bool, false}
+-- The two kinds of report, and what a report says in numbers. Assumes nothing.
+use mathlib.Core.Bool.{Bool, true, false}
 use Prim.Native.Nat.{ℕ}
 use Rattle.report.specs.declared.Report.{Report}
 
@@ -9,3 +9,8 @@ refusal n = record { answer = n; success = false; iters = 0 }
 
 abbrev pub ending : Bool → ℕ → Report
 ending b n = record { answer = 0; success = b; iters = n }
+
+-- success as a number
+abbrev pub flag : Bool → ℕ
+flag true = 1
+flag false = 0

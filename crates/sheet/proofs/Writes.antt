@@ -9,10 +9,11 @@ use native.Mathlib.Omega.{arith}
 use lib.ListN.{length, getD, set, drop, replicate, length-append, drop-of-length-le}
 use lib.Seq.{sets}
 use Rattle.maths.proofs.Stores.{sets-append, sets-replicate}
+use Rattle.report.specs.Report.{flag}
 use Rattle.sheet.specs.declared.print.Answer.{Answer}
 use Rattle.sheet.specs.Text.{newline, glyph, decimal, hex, line}
 use Rattle.sheet.specs.Reading.{valueOf, unhex}
-use Rattle.sheet.specs.Printing.{flag, room, answerOf, Written}
+use Rattle.sheet.specs.Printing.{room, answerOf, Written}
 use Rattle.sheet.proofs.Turns.{next}
 use Rattle.sheet.proofs.Decimals.{decimal-few}
 

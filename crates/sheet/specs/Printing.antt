@@ -1,16 +1,13 @@
 -- The answer to a sheet, as a text and as the bytes that hold it. Assumes nothing.
-use mathlib.Core.Bool.{Bool, true, false}
+use mathlib.Core.Bool.{Bool}
 use mathlib.Core.List.{List, _++_}
 use mathlib.Core.Path.{_≡_}
 use Prim.Native.Nat.{ℕ, _+_, _-_}
 use lib.ListN.{length, replicate}
 use lib.Seq.{sets}
+use Rattle.report.specs.Report.{flag}
 use Rattle.sheet.specs.declared.print.Answer.{Answer}
 use Rattle.sheet.specs.Text.{ascii, decimal, hex, line}
-
-abbrev pub flag : Bool → ℕ
-flag true = 1
-flag false = 0
 
 -- answer, success, iters, output: "each line ends with one newline"
 abbrev pub printed : ℕ → Bool → ℕ → List ℕ → List ℕ

@@ -1,8 +1,8 @@
-use mathlib.Core.Path.{_≡_, sym, ap, _∙_}
-use Prim.Native.Nat.{ℕ, _*_}
+use mathlib.Core.Path.{sym, ap, _∙_}
+use Prim.Native.Nat.{ℕ}
 use native.Mathlib.Omega.{arith}
 use denote.Ref.{now}
-use lib.ListN.{length, replicate}
+use lib.ListN.{replicate}
 use lib.Seq.{length-take-le}
 use Rattle.bits.proofs.Packed.{packed-whole}
 use Rattle.codes.specs.declared.runs.Runs.{Runs}
@@ -39,5 +39,5 @@ decode-spec =
     let a = s .args in
     let l = b .decode-bits .kept .1 .1 .1 .0 in
     decoded-by (s .pre) (now (a .input)) _ (a .maxiters) _ (runs-taken _ (r .runs-of .ensures)) (part-long 1536 (a .m) (checks-few (s .pre))) (b .decode-bits .ensures)
-    (p .pack .ensures ∙ packed-whole _ (now (a .output)) (whole-output (s .pre) ∙ sym l))
+    (p .pack .ensures ∙ packed-whole (b .decode-bits .last .1 .1 .1 .0) (now (a .output)) (whole-output (s .pre) ∙ sym l))
     (k .clear .ensures ∙ ap (λ (n : ℕ). replicate n 0) l)))

@@ -1,21 +1,22 @@
-use mathlib.Core.Path.{_≡_, refl}
+use mathlib.Core.Path.{_≡_, refl, _∙_}
 use mathlib.Core.List.{List, _++_}
-use Prim.Native.Nat.{ℕ, _*_, _-_, _≤_}
+use Prim.Native.Nat.{ℕ, _-_, _≤_}
 use native.Mathlib.Omega.{arith}
 use denote.Ref.{now}
 use lib.ListN.{length, drop, length-set}
 use Rattle.maths.specs.Lists.{span}
+use Rattle.maths.specs.Bytes.{byte, pack}
+use Rattle.maths.proofs.Bytes.{byte-from}
 use Rattle.maths.proofs.Fronts.{front-none, front-more, front-all}
 use lib.IntN.{ℤ}
 use Rattle.min_sum.specs.Confidence.{i8}
 use Rattle.min_sum.specs.MinSum.{hardBits}
-use Rattle.min_sum.specs.Hard.{byteOf, packed}
 use Rattle.min_sum.proofs.llrs.pack.Statement.{statement}
 use Rattle.min_sum.proofs.llrs.pack.Tie as tie
 
 -- the bytes by number
 abbrev bytes : List ℤ → ℕ → ℕ
-bytes w i = byteOf (hardBits i8 w) (8 * i)
+bytes w = byte (hardBits i8 w)
 
 abbrev Inv-loop : tie.InvT-loop
 Inv-loop output₀ w i₀ i-end output i = (i ≤ length output₀) × (length output ≡ length output₀) × (output ≡ span (bytes w) 0 i ++ drop i output₀)
@@ -24,7 +25,7 @@ abbrev μ-loop : tie.MeasureT-loop
 μ-loop output₀ w i₀ i-end output i = length output₀ - i
 
 pub pack-spec : {M : Type 1} → statement M
-unfolding packed
+unfolding pack
 pack-spec =
     tie.close
     (tie.spec
@@ -41,7 +42,7 @@ pack-spec =
     let a = t .before .before .args in (
       omega arith,
       simp length-set (t .loop .inv .1),
-      rw (c .hard-byte .ensures) (front-more (bytes (now (a .w))) (now (a .output)) (t .loop .i) (omega arith) (t .loop .inv .2)),
+      rw (c .hard-byte .ensures ∙ byte-from (hardBits i8 (now (a .w))) (t .loop .i)) (front-more (bytes (now (a .w))) (now (a .output)) (t .loop .i) (omega arith) (t .loop .inv .2)),
     ))
     (λ c. c .before .loop .inv .1)
     (λ c.

@@ -1,8 +1,8 @@
 use Prim.Native.Nat.{_≤_}
 use native.Mathlib.Omega.{arith}
 use denote.Ref.{now}
+use Rattle.report.specs.Report.{flag}
 use Rattle.sheet.specs.Text.{ascii}
-use Rattle.sheet.specs.Printing.{flag}
 use Rattle.sheet.proofs.Hex.{hex-length}
 use Rattle.sheet.proofs.Writes.{number-low, number-fits, flag-low, written-then, answered}
 use borrow.Author.Needs.{needs}
