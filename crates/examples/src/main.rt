@@ -54,16 +54,10 @@ fn flip(code: usize, input: &[u8], output: &mut [u8], working: &mut [u8]) {
     show(r, output);
 }
 
-fn soft(
-    code: usize,
-    input: &[u8],
-    llrs: &mut [i8],
-    output: &mut [u8],
-    working: &mut [i8],
-    signs: &mut [u8],
-) {
-    min_sum::llrs::hard_to_llrs_i8(0, input, llrs);
-    let r = min_sum::decode_ms_i8(code, llrs, output, working, signs, 20);
+fn soft(code: usize, input: &[u8], output: &mut [u8], working: &mut [i8], signs: &mut [u8]) {
+    let mut llrs = [0i8; 128];
+    min_sum::llrs::hard_to_llrs_i8(0, input, &mut llrs);
+    let r = min_sum::decode_ms_i8(code, &llrs, output, working, signs, 20);
     show(r, output);
 }
 
@@ -77,77 +71,19 @@ fn flips(frame: &[u8]) {
 }
 
 fn softs(frame: &[u8]) {
-    soft(
-        0,
-        frame,
-        &mut [0i8; 128],
-        &mut [0xffu8; 16],
-        &mut [0i8; 1280],
-        &mut [0u8; 8],
-    );
-    soft(
-        0,
-        frame,
-        &mut [0i8; 128],
-        &mut [0xffu8; 16],
-        &mut [0i8; 1280],
-        &mut [0u8; 9],
-    );
-    soft(
-        0,
-        frame,
-        &mut [0i8; 128],
-        &mut [0xffu8; 16],
-        &mut [0i8; 1279],
-        &mut [0u8; 9],
-    );
-    soft(
-        0,
-        frame,
-        &mut [0i8; 128],
-        &mut [0xffu8; 17],
-        &mut [0i8; 1279],
-        &mut [0u8; 9],
-    );
-    soft(
-        0,
-        frame,
-        &mut [0i8; 127],
-        &mut [0xffu8; 17],
-        &mut [0i8; 1279],
-        &mut [0u8; 9],
-    );
-    soft(
-        7,
-        frame,
-        &mut [0i8; 127],
-        &mut [0xffu8; 17],
-        &mut [0i8; 1279],
-        &mut [0u8; 9],
-    );
+    soft(0, frame, &mut [0xffu8; 16], &mut [0i8; 1280], &mut [0u8; 8]);
+    soft(0, frame, &mut [0xffu8; 16], &mut [0i8; 1280], &mut [0u8; 9]);
+    soft(0, frame, &mut [0xffu8; 16], &mut [0i8; 1279], &mut [0u8; 9]);
+    soft(0, frame, &mut [0xffu8; 17], &mut [0i8; 1279], &mut [0u8; 9]);
+    soft(7, frame, &mut [0xffu8; 17], &mut [0i8; 1279], &mut [0u8; 9]);
 }
 
-// The frame of data 00 to 07 with four bits flipped.
 fn main() {
-    let frame = [
-        0x55u8,
-        1,
-        2,
-        3,
-        4,
-        5,
-        6,
-        7,
-        0x34,
-        0x99,
-        0x98,
-        0x87,
-        0x94,
-        0xe1,
-        0x62,
-        0x56,
-    ];
     encodes();
+    let mut frame = [0u8; 16];
+    encoder::copy_encode(0, &[0u8, 1, 2, 3, 4, 5, 6, 7], &mut frame);
+    // four bits flipped
+    frame[0] = 0x55;
     flips(&frame);
     softs(&frame);
 }
