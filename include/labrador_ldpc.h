@@ -14,7 +14,11 @@
  *   LDPC_WRONG_SIGNS    5   the sign buffer of min-sum has the wrong length
  *
  * The tests run in this order, and the first that fails is the answer. A call that is refused changes no byte of any
- * buffer; a decoder then sets *success and *iters to 0. After an accepted decode the working buffers hold zeros only.
+ * buffer, with one exception: ldpc_params, asked for an unknown code, leaves ten zeros. A decoder that refuses sets
+ * *success and *iters to 0. After an accepted decode the working buffers hold zeros only.
+ *
+ * maxiters is any number, and a huge one is honoured: a word that no pass puts right then keeps the decoder busy for as
+ * long.
  *
  * Two things cannot be checked and are the caller's: the buffers of one call do not overlap, and each length is the
  * true length of its buffer. */

@@ -2,29 +2,26 @@
 use mathlib.Core.Bool.{true}
 use mathlib.Core.List.{List}
 use mathlib.Core.Path.{_≡_, refl, sym, ap, _∙_}
-use Prim.Native.Nat.{ℕ, zero, suc, _+_, _<_}
+use Prim.Native.Nat.{ℕ}
 use native.Mathlib.Nat.{add-zero}
 use native.Mathlib.Decide.{ℕ-discrete}
 use native.Mathlib.Omega.{arith}
-use borrow.Author.Tests.{eq-eqb, ne-eqb, lt-ltb}
-use lib.Dec.{ltb}
+use borrow.Author.Tests.{eq-eqb, ne-eqb}
 use lib.ListN.{length}
-use Rattle.maths.specs.Tests.{pick, both}
 use Rattle.maths.specs.Bytes.{Bytes}
-use Rattle.maths.specs.Budget.{run}
 use Rattle.maths.proofs.Bytes.{length-pack, bytes-pack}
 use Rattle.codes.specs.Codes.{rowOf, checksIn}
 use Rattle.codes.specs.Edges.{edges}
-use Rattle.report.specs.declared.Report.{Report}
+use Rattle.codes.specs.Equations.{wordOf, holds}
 use Rattle.report.specs.Report.{refusal, ending}
-use Rattle.bit_flip.specs.Flip.{pass, passes}
-use Rattle.bit_flip.specs.Erasures.{voted, Filled, filled, erasurePasses}
+use Rattle.bit_flip.specs.Flip.{flipped, pass, passes}
+use Rattle.bit_flip.specs.Erasures.{erasurePasses}
 use Rattle.bit_flip.specs.Outcome.{Outcome, left, decodeWord, received, punctured, decoded, outcome}
 use Rattle.bit_flip.proofs.Theorems.{success-meets, clean}
-use Rattle.agreement.specs.Demands.{told, DecodesByTable, SuccessMeets, FrameReturns, CountsPasses}
-use Rattle.agreement.specs.Ours.{Hard, bitFlip, bitFlipping}
+use Rattle.agreement.specs.Demands.{told, DecodesByTable, SuccessMeets, FrameReturns, CountsPasses, DecodesAs}
+use Rattle.agreement.specs.Ours.{Hard, bitFlip, flippedIn, bitFlipping}
 use Rattle.agreement.proofs.Sender.{sent-bytes, sent-meets}
-use Rattle.agreement.proofs.Limits.{run-counted}
+use Rattle.agreement.proofs.Counting.{run-counted}
 
 -- a call is accepted, or refused by a number
 module _ (code : ℕ) (b : Hard) (limit : ℕ) where
@@ -71,29 +68,20 @@ bit-flip-returns code b limit tc sent h k =
     ap (λ (x : Outcome). told (x .report) (x .output))
     (clean code (b .input) (b .output) (b .working) limit tc h (sent-bytes sent) (sent-meets sent tc) k)
 
--- the word that the main passes begin with, where there are some
-abbrev begun : ℕ → List ℕ → List ℕ
-begun code input =
-    pick (both (ltb 0 (rowOf code .«punctured_bits»)) true) (voted (punctured code) (edges code) (received code input)) (received code input)
+-- the report of the main passes: the erasure pass counts no iteration
+abbrev begun : ℕ → List ℕ → ℕ → List ℕ
+begun code input limit = erasurePasses (punctured code) (edges code) (rowOf code .«punctured_bits») limit (received code input) .word
 
-begun-is : (code : ℕ) (input : List ℕ) (limit : ℕ) → 0 < limit
-    → erasurePasses (punctured code) (edges code) (rowOf code .«punctured_bits») limit (received code input) ≡ filled (begun code input) 0
-unfolding erasurePasses
-begun-is code input limit h = rw (lt-ltb 0 limit h)
-
--- the report of their run
-abbrev ended : ℕ → ℕ → Filled → Report
-ended code limit s = let e = passes (edges code) (checksIn code) limit (s .word) in ending (e .success) (e .turns + s .count)
-
-report-is : (code : ℕ) (input : List ℕ) (limit : ℕ) → let e = passes (edges code) (checksIn code) limit (begun code input) in
+report-is : (code : ℕ) (input : List ℕ) (limit : ℕ) → let e = passes (edges code) (checksIn code) limit (begun code input limit) in
     decoded code input limit .report ≡ ending (e .success) (e .turns)
-unfolding decoded decodeWord erasurePasses run
-report-is code input zero = refl
-report-is code input (suc limit) =
-    ap (ended code (suc limit)) (begun-is code input (suc limit) (omega arith))
-    ∙ ap (ending (passes (edges code) (checksIn code) (suc limit) (begun code input) .success)) (add-zero _)
+unfolding decoded decodeWord erasurePasses
+report-is code input limit = ap (ending _) (add-zero _)
 
 pub bit-flip-counts : CountsPasses bitFlipping bitFlip
+unfolding pass
 bit-flip-counts code b limit h =
-    run-counted (pass (edges code) (checksIn code)) (begun code (b .input)) (λ m. bitFlip code b m .report)
-    (λ m. ap (λ (x : Outcome). x .report) (accepted-is code b m h) ∙ report-is code (b .input) m) limit
+    run-counted code (flippedIn code (b .input) limit) (pass (edges code) (checksIn code)) (λ w. holds (edges code) (checksIn code) (wordOf w)) (flipped (edges code)) (λ w. w)
+    (λ w. refl) (begun code (b .input) limit) (λ i. refl) limit (ap (λ (x : Outcome). x .report) (accepted-is code b limit h) ∙ report-is code (b .input) limit)
+
+pub bit-flip-steps : DecodesAs bitFlipping bitFlip
+bit-flip-steps code b limit h = ap (λ (x : Outcome). told (x .report) (x .output)) (accepted-is code b limit h)

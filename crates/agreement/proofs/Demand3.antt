@@ -15,7 +15,7 @@ use Rattle.codes.specs.Codes.{TC, rowOf}
 use Rattle.codes.specs.Equations.{Meets}
 use Rattle.codes.proofs.Codes.{lengths}
 use Rattle.matrices.proofs.Sizes.{tc-bits}
-use Rattle.matrices.proofs.Distances.{near-same, wrong-noticed}
+use Rattle.low_weights.proofs.Distances.{near-same, wrong-noticed}
 use Rattle.report.specs.declared.Report.{Report}
 use Rattle.report.specs.Report.{ending}
 use Rattle.bit_flip.specs.Outcome as flip
@@ -63,38 +63,43 @@ back : {report : Report} {output frame : List ℕ} → told report output ≡ to
     → (report .success ≡ true) × (report .iters ≡ 0) × (output ≡ frame)
 back e = (ap (λ (x : Told). x .report .success) e, ap (λ (x : Told). x .report .iters) e, ap (λ (x : Told). x .output) e)
 
--- ---- "whatever a decoder calls a success meets every parity equation", of all codes
+-- ---- whatever a decoder calls a success meets every parity equation, of all codes
 pub success-meets : {code : ℕ} {report : Report} {output : List ℕ} → Answered code report output → report .success ≡ true → Meets code (bitAt output)
 success-meets a s = succeeded a s .meets
 
 -- ---- TC128, TC256, TC512
 module _ {code : ℕ} (tc : TC code) {frame : List ℕ} (sent : Sent code frame) where
-  -- "every encoded frame meets" the equations
+  -- every encoded frame meets the equations
   pub sent-meets : Meets code (bitAt frame)
   sent-meets = sender.sent-meets sent tc
 
-  -- a received word that differs from the frame in one, two, three or any odd number of bits is no decoder's success, whatever it reads and whatever the limit
+  -- a received word that differs from the frame in one to nine, or in any odd number of bits is no decoder's success, whatever it reads and whatever the limit
   pub damage-noticed : {report : Report} {received : List ℕ}
-      → ((0 < distance frame received) × (distance frame received < 4)) ⊎ (distance frame received % 2 ≡ 1)
+      → ((0 < distance frame received) × (distance frame received < 10)) ⊎ (distance frame received % 2 ≡ 1)
       → Answered code report received → report .success ≡ true → ⊥
   damage-noticed {received = received} wrong a s =
       wrong-noticed code tc frame received (sender.sent-length sent) wrong sent-meets (success-meets a s)
 
-  -- a success is the frame if its way from there over the received word is of three bits at most
+  -- a success is the frame if its way from there over the received word is of nine bits at most
   pub near-success : (received : List ℕ) {report : Report} {output : List ℕ} → length received ≡ rowOf code .n / 8
-      → distance frame received + distance received output ≤ 3 → Answered code report output → report .success ≡ true → output ≡ frame
+      → distance frame received + distance received output ≤ 9 → Answered code report output → report .success ≡ true → output ≡ frame
   near-success received {output = output} long near a s =
       let y = succeeded a s in
       let whole : rowOf code .«output_len» ≡ rowOf code .n / 8 = omega (arith, lengths code (omega arith) .output, tc-bits code tc) in
       let over = distance-over frame received output (sender.sent-length sent ∙ sym long) in
       sym (near-same code tc frame output (sender.sent-length sent) sent-meets (y .meets) (y .long ∙ whole) (sender.sent-bytes sent) (y .bytes) (omega arith))
 
-  -- "if it is at distance at most 1, a successful answer at distance at most 1 from what was received is the frame sent"
+  -- so with up to four bits flipped a success within five bits of what was received is the frame that was sent
+  pub four-corrected : (received : List ℕ) {report : Report} {output : List ℕ} → length received ≡ rowOf code .n / 8
+      → distance frame received ≤ 4 → distance received output ≤ 5 → Answered code report output → report .success ≡ true → output ≡ frame
+  four-corrected received long few near = near-success received long (omega arith)
+
+  -- and with at most one flipped, a success within one bit of it
   pub one-corrected : (received : List ℕ) {report : Report} {output : List ℕ} → length received ≡ rowOf code .n / 8
       → distance frame received ≤ 1 → distance received output ≤ 1 → Answered code report output → report .success ≡ true → output ≡ frame
   one-corrected received long one near = near-success received long (omega arith)
 
-  -- "unchanged, with a limit of at least 1, it comes back the same with success at iteration 0": by bit flipping,
+  -- unchanged, with a limit of at least 1, it comes back the same with success at iteration 0: by bit flipping,
   pub unchanged-bit-flipping : (old working : List ℕ) (limit : ℕ) → 1 ≤ limit → {report : Report} {output working′ : List ℕ}
       → flip.left report output working′ ≡ flip.outcome code frame old working limit → report .answer ≡ 0
       → (report .success ≡ true) × (report .iters ≡ 0) × (output ≡ frame)

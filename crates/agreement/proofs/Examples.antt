@@ -27,6 +27,9 @@ use Rattle.min_sum.proofs.Answers.{decode-lent}
 use Rattle.min_sum.proofs.Rows.{fine}
 use Rattle.min_sum.proofs.Marginals.{replicate-at}
 use Rattle.min_sum.proofs.Success.{at-once, steady}
+use Rattle.sheet.specs.Text.{ascii}
+use Rattle.sheet.specs.Sheet.{flippedText, answerTo, sheetOf}
+use Rattle.sheet.proofs.Examples.{document-read, document-printed}
 use Rattle.agreement.specs.Examples.{zeros, Examples}
 use Rattle.agreement.proofs.Zeros.{zero-bits, zero-meets, zero-frame}
 
@@ -66,8 +69,14 @@ module _ (code : ℕ) (old signs : List ℕ) (working : List ℤ) where
       at-once i8 code (replicate n (pos 0)) old working signs 1 (rw long e) (steady 127) (omega arith) (rw (given, zero-hard (n + p)) (zero-meets code))
       ∙ rw (given, zero-hard (n + p), bytes, pack-zero (rowOf code .«output_len»))
 
+-- ---- the bench sheet: what it asks for, what bit flipping leaves, and what is printed of that
+whole-sheet : sheetOf (ascii "code=0\nop=bf\nmaxiters=1\nframe=00000000000000000000000000000000\n")
+    ≡ ascii "answer=0\nsuccess=1\niters=0\noutput=00000000000000000000000000000000\n"
+unfolding rows
+whole-sheet = ap answerTo document-read ∙ ap flippedText (flip-once (zeros 16) (zeros 128) refl refl) ∙ document-printed
+
 pub examples : Examples
-unfolding clamp satAdd satSub size below0 rotated placed span pack rows generators encodedBytes
+unfolding clamp satAdd satSub size below0 rotated placed span pack rows generators encodedBytes decodeAnswer
 examples =
     record {
       identity = refl;
@@ -83,5 +92,14 @@ examples =
       flip-never = flip-never;
       soft-once = soft-once;
       last-code = refl;
+      last-encode = refl;
+      last-copy = refl;
+      last-flip = refl;
+      last-soft = refl;
       no-code = refl;
+      no-encode = λ codeword. refl;
+      no-copy = λ message codeword. refl;
+      no-flip = λ input output working. refl;
+      no-soft = λ llrs output working signs. refl;
+      whole-sheet = whole-sheet;
     }

@@ -1,9 +1,8 @@
 -- No idle version meets the demands: calls on TC128 tell each from ours, for both encoders and both decoders. Assumes nothing.
-use mathlib.Core.Bool.{Bool, true, false}
 use mathlib.Core.List.{List, _∷_}
+use mathlib.Core.Bool.{true, false}
 use mathlib.Core.Path.{_≡_, refl, sym, ap, _∙_}
-use Prim.Native.Nat.{ℕ, zero, suc, _+_, _%_, _≤_, _<_}
-use native.Mathlib.Decide.{decLt}
+use Prim.Native.Nat.{ℕ, zero, suc, _%_, _<_}
 use native.Mathlib.Omega.{arith}
 use lib.ListN.{length, getD}
 use Rattle.maths.specs.Bits.{bitAt}
@@ -12,50 +11,21 @@ use Rattle.codes.specs.Codes.{rows}
 use Rattle.matrices.specs.Frames.{frameOf, encodedBytes}
 use Rattle.matrices.proofs.Edges.{meets-same}
 use Rattle.matrices.proofs.Encoded.{encoded-meets, encoded-bits}
-use Rattle.report.specs.declared.Report.{Report}
 use Rattle.report.specs.Report.{ending}
 use Rattle.min_sum.specs.Confidence.{i8}
 use Rattle.min_sum.proofs.Conversions.{llrs-hard-i8}
 use Rattle.min_sum.proofs.Marginals.{replicate-at}
 use Rattle.min_sum.proofs.Success.{steady}
 use Rattle.agreement.specs.Parties.{Sent, by-copy-encode}
-use Rattle.agreement.specs.Demands.{Sending, Told, told, Decoder, Receiving, Counted, FrameReturns, CountsPasses}
+use Rattle.agreement.specs.Demands.{Sending, Told, told, Decoder, Receiving, FrameReturns, CountsPasses, DecodesAs}
 use Rattle.agreement.specs.Ours.{encoding, copyEncoding, bitFlip, bitFlipping, minSum, minSumming}
 use Rattle.agreement.specs.Examples.{zeros}
-use Rattle.agreement.specs.Idle.{NoIdleEncoder, rests, fails, decodesAlike, renumbered, NoIdleDecoder}
+use Rattle.agreement.specs.Idle.{NoIdleEncoder, rests, fails, decodesAlike, copies, worksOnce, NoIdleDecoder}
 use Rattle.agreement.proofs.Sender.{sent-bytes, sent-length, sent-meets}
-use Rattle.agreement.proofs.BitFlip.{bit-flip-returns, bit-flip-counts}
-use Rattle.agreement.proofs.MinSum.{min-sum-returns, min-sum-counts}
+use Rattle.agreement.proofs.Counting.{counted-one}
+use Rattle.agreement.proofs.BitFlip.{bit-flip-returns, bit-flip-counts, bit-flip-steps}
+use Rattle.agreement.proofs.MinSum.{min-sum-returns, min-sum-counts, min-sum-steps}
 use Rattle.agreement.proofs.Passes.{spoilt, hardLent, softLent, spoilt-unmet, flip-misses, flip-moves, soft-accepted, soft-misses, soft-moves}
-
--- ---- reports that say true under the same limits, and count their passes, have the same numbers
-counted-least : (r s : ℕ → Report) → ((m : ℕ) → r m .success ≡ s m .success) → (limit : ℕ) → Counted r limit → Counted s limit → r limit .success ≡ true
-    → s limit .iters ≤ r limit .iters
-counted-least r s same limit c d e = by (decLt (r limit .iters) (s limit .iters))
-  where
-    by : Dec (r limit .iters < s limit .iters) → s limit .iters ≤ r limit .iters
-    by (yes h) =
-        absurd (let t : s (r limit .iters + 1) .success ≡ true = sym (same _) ∙ c .enough e in
-        let f : s (r limit .iters + 1) .success ≡ false = d .first (sym (same limit) ∙ e) _ (omega arith) in
-        let z : _≡_ {A = ℕ} 0 1 = cc in
-        omega arith)
-    by (no h) = omega arith
-
-counted-same : (r s : ℕ → Report) → ((m : ℕ) → r m .success ≡ s m .success) → (limit : ℕ) → Counted r limit → Counted s limit → r limit .iters ≡ s limit .iters
-counted-same r s same limit c d = by (r limit .success) refl
-  where
-    by : (b : Bool) → r limit .success ≡ b → r limit .iters ≡ s limit .iters
-    by true e =
-        let l = counted-least r s same limit c d e in
-        let g = counted-least s r (λ m. sym (same m)) limit d c (sym (same limit) ∙ e) in
-        omega arith
-    by false e = c .spent e ∙ sym (d .spent (sym (same limit) ∙ e))
-
--- so a made-up number is the number
-made-up : {B : Type 0} (calls : Receiving B) (d : Decoder B) (number : ℕ → B → ℕ → ℕ) → CountsPasses calls d → CountsPasses calls (renumbered number d)
-    → (code : ℕ) (b : B) (limit : ℕ) → calls .answer code b ≡ 0 → number code b limit ≡ d code b limit .report .iters
-made-up calls d number counts counts′ code b limit a =
-    counted-same (λ m. renumbered number d code b m .report) (λ m. d code b m .report) (λ m. refl) limit (counts′ code b limit a) (counts code b limit a)
 
 -- ---- two messages, and their frames
 bytes-then : (x n : ℕ) → x < 256 → Bytes (x ∷ zeros n)
@@ -113,16 +83,19 @@ pub copy-no-idle : NoIdleEncoder copyEncoding
 unfolding rows
 copy-no-idle = no-idle-encoder (record { lend = λ x. record { message = message x; codeword = spoilt }; accepted = λ x. refl; brings = λ x. refl; before = refl })
 
--- ---- decoders: calls that are accepted, and bring a given word
-record Receives {B : Type 0} (calls : Receiving B) (definition : Decoder B) : Type 0 where
+-- ---- decoders: calls that are accepted, and bring a given word, and what ours does with them
+record Receives {B : Type 0} (calls : Receiving B) (ours : Decoder B) : Type 0 where
   lend : List ℕ → B
   accepted : (s : List ℕ) → length s ≡ 16 → calls .answer 0 (lend s) ≡ 0
   brings : (s : List ℕ) → Bytes s → calls .word (lend s) ≡ s
   before : (s : List ℕ) → calls .output (lend s) ≡ spoilt
-  misses : definition 0 (lend spoilt) 1 .report .success ≡ false
-  moves : definition 0 (lend spoilt) 1 .output ≡ definition 0 (lend spoilt) 2 .output → ⊥
+  misses : ours 0 (lend spoilt) 1 .report .success ≡ false
+  moves : ours 0 (lend spoilt) 1 .output ≡ ours 0 (lend spoilt) 2 .output → ⊥
+  returns : FrameReturns calls ours
+  counts : CountsPasses calls ours
+  follows : DecodesAs calls ours
 
-module _ {B : Type 0} {calls : Receiving B} {definition : Decoder B} (c : Receives calls definition) where
+module _ {B : Type 0} {calls : Receiving B} {ours : Decoder B} (c : Receives calls ours) where
   frame-accepted : (x : ℕ) → x < 256 → calls .answer 0 (c .lend (frame x)) ≡ 0
   unfolding rows
   frame-accepted x h = c .accepted (frame x) (sent-length (frame-sent x h))
@@ -136,8 +109,17 @@ module _ {B : Type 0} {calls : Receiving B} {definition : Decoder B} (c : Receiv
   spoilt-accepted : calls .answer 0 (c .lend spoilt) ≡ 0
   spoilt-accepted = c .accepted spoilt refl
 
-  no-idle-decoder : FrameReturns calls definition → CountsPasses calls definition → NoIdleDecoder calls definition
-  no-idle-decoder returns counts =
+  -- whoever follows the steps leaves what ours leaves
+  as-ours : (d : Decoder B) → DecodesAs calls d → (s : List ℕ) (limit : ℕ) → calls .answer 0 (c .lend s) ≡ 0 → d 0 (c .lend s) limit ≡ ours 0 (c .lend s) limit
+  as-ours d same s limit h = same 0 (c .lend s) limit h ∙ sym (c .follows 0 (c .lend s) limit h)
+
+  -- and not the same output after one pass and after two
+  not-still : (d : Decoder B) → DecodesAs calls d → d 0 (c .lend spoilt) 1 .output ≡ d 0 (c .lend spoilt) 2 .output → ⊥
+  not-still d same e =
+      c .moves (ap (λ (x : Told). x .output) (sym (as-ours d same spoilt 1 spoilt-accepted)) ∙ e ∙ ap (λ (x : Told). x .output) (as-ours d same spoilt 2 spoilt-accepted))
+
+  no-idle-decoder : NoIdleDecoder calls
+  no-idle-decoder =
       let b = c .lend spoilt in
       record {
         refusing = λ number low table. omega (arith, low 0 b, table 0 b 1 ∙ spoilt-accepted);
@@ -149,14 +131,18 @@ module _ {B : Type 0} {calls : Receiving B} {definition : Decoder B} (c : Receiv
         resting-frame = λ says r.
             let e : spoilt ≡ frame 0 = sym (c .before (frame 0)) ∙ ap (λ (x : Told). x .output) (returned (rests calls says) r 0 (omega arith)) in
             spoilt-unmet (rw e (sent-meets (frame-sent 0 (omega arith)) (omega arith)));
-        copying-output = λ says same. c .moves (sym (same 0 b 1) ∙ same 0 b 2);
-        working-once = λ d same. c .moves (sym (same 0 b 1) ∙ same 0 b 2);
-        made-up = made-up calls;
-        one-number = λ n counts′.
-            let is = made-up calls definition (λ code b limit. n) counts counts′ in
-            let none : n ≡ 0 =
-            is 0 (c .lend (frame 0)) 1 (frame-accepted 0 (omega arith)) ∙ ap (λ (x : Told). x .report .iters) (returned definition returns 0 (omega arith)) in
-            let one : n ≡ 1 = is 0 b 1 spoilt-accepted ∙ counts 0 b 1 spoilt-accepted .spent (c .misses) in
+        copying-output = λ says same. not-still (copies calls says) same refl;
+        working-once = λ d same. not-still (worksOnce d) same refl;
+        made-up = λ d e x y code b limit h. counted-one (x code b limit h) (y code b limit h);
+        one-number = λ d n counts.
+            let same : (s : List ℕ) → calls .answer 0 (c .lend s) ≡ 0 → n ≡ ours 0 (c .lend s) 1 .report .iters =
+            λ s h. counted-one (counts 0 (c .lend s) 1 h) (c .counts 0 (c .lend s) 1 h) .1 in
+            let none : n ≡ 0 = same (frame 0) (frame-accepted 0 (omega arith)) ∙ ap (λ (x : Told). x .report .iters) (returned ours (c .returns) 0 (omega arith)) in
+            let one : n ≡ 1 = same spoilt spoilt-accepted ∙ c .counts 0 b 1 spoilt-accepted .spent (c .misses) in
+            omega arith;
+        never-succeeding = λ d same.
+            let e = as-ours (fails d) same (frame 0) 1 (frame-accepted 0 (omega arith)) ∙ returned ours (c .returns) 0 (omega arith) in
+            let z : _≡_ {A = ℕ} 0 1 = cc (ap (λ (x : Told). x .report .success) e) in
             omega arith;
       }
 
@@ -171,6 +157,9 @@ flip-receives =
       before = λ s. refl;
       misses = flip-misses;
       moves = flip-moves;
+      returns = bit-flip-returns;
+      counts = bit-flip-counts;
+      follows = bit-flip-steps;
     }
 
 soft-receives : Receives (minSumming i8) (minSum i8)
@@ -182,10 +171,13 @@ soft-receives =
       before = λ s. refl;
       misses = soft-misses;
       moves = soft-moves;
+      returns = min-sum-returns i8 (steady 127);
+      counts = min-sum-counts i8;
+      follows = min-sum-steps i8;
     }
 
-pub bit-flip-no-idle : NoIdleDecoder bitFlipping bitFlip
-bit-flip-no-idle = no-idle-decoder flip-receives bit-flip-returns bit-flip-counts
+pub bit-flip-no-idle : NoIdleDecoder bitFlipping
+bit-flip-no-idle = no-idle-decoder flip-receives
 
-pub min-sum-no-idle : NoIdleDecoder (minSumming i8) (minSum i8)
-min-sum-no-idle = no-idle-decoder soft-receives (min-sum-returns i8 (steady 127)) (min-sum-counts i8)
+pub min-sum-no-idle : NoIdleDecoder (minSumming i8)
+min-sum-no-idle = no-idle-decoder soft-receives

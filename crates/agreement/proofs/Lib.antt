@@ -1,6 +1,6 @@
 pub mod Outcomes
 pub mod Sender
-pub mod Limits
+pub mod Counting
 pub mod MinSum
 pub mod BitFlip
 pub mod Demand3

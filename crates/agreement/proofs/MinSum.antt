@@ -18,17 +18,17 @@ use Rattle.matrices.proofs.Edges.{meets-same}
 use Rattle.report.specs.declared.Report.{Report}
 use Rattle.report.specs.Report.{ending}
 use Rattle.min_sum.specs.Confidence.{Confidence, Steady}
-use Rattle.min_sum.specs.MinSum.{Messages, at, hardBits, start, turn, decoded}
+use Rattle.min_sum.specs.MinSum.{Messages, at, hardBits, start, pass, met, turn, decoded}
 use Rattle.min_sum.specs.Hard.{toHard}
 use Rattle.min_sum.specs.Outcomes.{Outcome}
 use Rattle.min_sum.specs.Working.{Lent}
 use Rattle.min_sum.proofs.Answers.{decode-lent, decode-refused}
 use Rattle.min_sum.proofs.Rows.{fine}
 use Rattle.min_sum.proofs.Success.{sized-state, accepted-is, says-true, at-once, given-bit}
-use Rattle.agreement.specs.Demands.{told, DecodesByTable, SuccessMeets, FrameReturns, CountsPasses}
-use Rattle.agreement.specs.Ours.{Soft, minSum, minSumming}
+use Rattle.agreement.specs.Demands.{told, DecodesByTable, SuccessMeets, FrameReturns, CountsPasses, DecodesAs}
+use Rattle.agreement.specs.Ours.{Soft, minSum, marginalsIn, minSumming}
 use Rattle.agreement.proofs.Sender.{sent-meets}
-use Rattle.agreement.proofs.Limits.{run-number, run-counted}
+use Rattle.agreement.proofs.Counting.{run-counted}
 
 module _ {C : Type 0} (o : Confidence C) where
   pub min-sum-table : DecodesByTable (minSumming o) (minSum o)
@@ -62,34 +62,34 @@ module _ {C : Type 0} (o : Confidence C) where
           rw output-is (length-pack (hardBits o (ran limit .state .marginals)) _
           ∙ rw (sized-state o code (b .llrs) limit (lent .is-known) (lent .llrs-long)) (omega (arith, fine code (lent .is-known) .output)))
 
-    module _ (e : minSum o code b limit .report .success ≡ true) where
-      -- a success was accepted, and made a pass
-      pub min-sum-accepted : minSumming o .answer code b ≡ 0
-      min-sum-accepted = by (ℕ-discrete (minSumming o .answer code b) 0)
-        where
-          by : Dec (minSumming o .answer code b ≡ 0) → minSumming o .answer code b ≡ 0
-          by (yes h) = h
-          by (no h) =
-              absurd (let f = decode-refused o code (b .llrs) (b .output) (b .working) (b .signs) limit refl h in
-              let z : _≡_ {A = ℕ} 0 1 = cc (ap (λ (x : Outcome C). x .report .success) f) in
-              omega arith)
+  pub min-sum-counts : CountsPasses (minSumming o) (minSum o)
+  unfolding turn met
+  min-sum-counts code b limit h =
+      let es = edges code in
+      let m = checksIn code in
+      let p = rowOf code .«punctured_bits» in
+      run-counted code (marginalsIn o code (b .llrs)) (turn o es m p (b .llrs)) (λ s. met o es m p (b .llrs) (pass o es m p (b .llrs) s)) (pass o es m p (b .llrs))
+      (pass o es m p (b .llrs)) (λ s. refl) (start o es m p (b .llrs)) (λ i. refl) limit (report-is code b limit h)
 
-      passed-once : 1 ≤ limit
-      passed-once =
-          let h = min-sum-accepted in
-          let r = run-number (turn o (edges code) (checksIn code) (rowOf code .«punctured_bits») (b .llrs)) limit 0 _
-          (sym (ap (λ (x : Report). x .success) (report-is h)) ∙ e) in
-          omega arith
+  pub min-sum-steps : DecodesAs (minSumming o) (minSum o)
+  min-sum-steps code b limit h =
+      ap (λ (x : Outcome C). told (x .report) (x .output)) (accepted-is o code (b .llrs) (b .output) (b .working) (b .signs) limit h)
+
+  -- a success was accepted
+  pub min-sum-accepted : (code : ℕ) (b : Soft C) (limit : ℕ) → minSum o code b limit .report .success ≡ true → minSumming o .answer code b ≡ 0
+  min-sum-accepted code b limit e = by (ℕ-discrete (minSumming o .answer code b) 0)
+    where
+      by : Dec (minSumming o .answer code b ≡ 0) → minSumming o .answer code b ≡ 0
+      by (yes h) = h
+      by (no h) =
+          absurd (let f = decode-refused o code (b .llrs) (b .output) (b .working) (b .signs) limit refl h in
+          let z : _≡_ {A = ℕ} 0 1 = cc (ap (λ (x : Outcome C). x .report .success) f) in
+          omega arith)
 
   pub min-sum-meets : SuccessMeets (minSumming o) (minSum o)
   min-sum-meets code b limit e =
-      says-true o code (b .llrs) (b .output) (b .working) (b .signs) limit (min-sum-accepted code b limit e) (passed-once code b limit e) .0 e
-
-  pub min-sum-counts : CountsPasses (minSumming o) (minSum o)
-  min-sum-counts code b limit h =
-      run-counted (turn o (edges code) (checksIn code) (rowOf code .«punctured_bits») (b .llrs))
-      (start o (edges code) (checksIn code) (rowOf code .«punctured_bits») (b .llrs))
-      (λ m. minSum o code b m .report) (λ m. report-is code b m h) limit
+      let h = min-sum-accepted code b limit e in
+      says-true o code (b .llrs) (b .output) (b .working) (b .signs) limit h (omega (arith, min-sum-counts code b limit h .within e)) .0 e
 
   pub min-sum-returns : Steady o → FrameReturns (minSumming o) (minSum o)
   min-sum-returns st code b limit tc sent h k =

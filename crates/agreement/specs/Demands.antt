@@ -2,7 +2,7 @@
 use mathlib.Core.Bool.{true, false}
 use mathlib.Core.List.{List}
 use mathlib.Core.Path.{_≡_}
-use Prim.Native.Nat.{ℕ, _+_, _≤_, _<_}
+use Prim.Native.Nat.{ℕ, _≤_, _<_}
 use Rattle.maths.specs.Bits.{bitAt}
 use Rattle.codes.specs.Codes.{TC, rowOf}
 use Rattle.codes.specs.Equations.{Meets}
@@ -47,19 +47,23 @@ told r o = record { report = r; output = o }
 abbrev pub Decoder : Type 0 → Type 0
 Decoder B = ℕ → B → ℕ → Told
 
--- how it is called: the number of the first test that the buffers fail, or 0, the word that they bring, and the output before
+-- how it is called: the number of the first test that the buffers fail, or 0, the word that they bring, and the output before;
+-- and what document 01's steps make of an accepted call: the word at hand in a pass, by its number, and what is told at the end
 pub record Receiving (B : Type 0) : Type 0 where
   pub answer : ℕ → B → ℕ
   pub word : B → List ℕ
   pub output : B → List ℕ
+  pub hand : ℕ → B → ℕ → ℕ → ℕ → ℕ
+  pub steps : ℕ → B → ℕ → Told
 
--- "it must be the pass at which the equations first hold": the iterations of a report, by the reports under every limit.
--- With no success all passes are made; a success has the number of a pass, succeeds if that pass is the last, and not with fewer
-pub record Counted (under : ℕ → Report) (limit : ℕ) : Type 0 where
-  pub spent : under limit .success ≡ false → under limit .iters ≡ limit
-  pub within : under limit .success ≡ true → under limit .iters < limit
-  pub enough : under limit .success ≡ true → under (under limit .iters + 1) .success ≡ true
-  pub first : under limit .success ≡ true → (fewer : ℕ) → fewer ≤ under limit .iters → under fewer .success ≡ false
+-- "it must be the pass at which the equations first hold": of the word at hand in each pass. With no success they hold in none, and all passes
+-- are made; a success has the number of a pass, in which they hold, and in none before it
+pub record Counted (code : ℕ) (hand : ℕ → ℕ → ℕ) (limit : ℕ) (r : Report) : Type 0 where
+  pub none : r .success ≡ false → (i : ℕ) → i < limit → Meets code (hand i) → ⊥
+  pub spent : r .success ≡ false → r .iters ≡ limit
+  pub within : r .success ≡ true → r .iters < limit
+  pub hold : r .success ≡ true → Meets code (hand (r .iters))
+  pub first : r .success ≡ true → (i : ℕ) → i < r .iters → Meets code (hand i) → ⊥
 
 module _ {B : Type 0} (calls : Receiving B) (d : Decoder B) where
   -- the refusal table
@@ -77,8 +81,8 @@ module _ {B : Type 0} (calls : Receiving B) (d : Decoder B) where
 
   -- demand 2: the iteration number is the pass count
   abbrev pub CountsPasses : Type 0
-  CountsPasses = (code : ℕ) (b : B) (limit : ℕ) → calls .answer code b ≡ 0 → Counted (λ m. d code b m .report) limit
+  CountsPasses = (code : ℕ) (b : B) (limit : ℕ) → calls .answer code b ≡ 0 → Counted code (calls .hand code b limit) limit (d code b limit .report)
 
--- demand 2: the output is the definition's, for each limit
-abbrev pub DecodesAs : {B : Type 0} → Decoder B → Decoder B → Type 0
-DecodesAs {B} definition d = (code : ℕ) (b : B) (limit : ℕ) → d code b limit .output ≡ definition code b limit .output
+  -- demand 2: the report and the output are those of document 01's steps, for each limit
+  abbrev pub DecodesAs : Type 0
+  DecodesAs = (code : ℕ) (b : B) (limit : ℕ) → calls .answer code b ≡ 0 → d code b limit ≡ calls .steps code b limit

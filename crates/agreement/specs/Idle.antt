@@ -66,8 +66,8 @@ pub record NoIdleEncoder {B : Type 0} (calls : Sending B) : Type 0 where
   pub resting : (answers : ℕ → B → ℕ) → EncodesData calls (restsEncoding calls answers) → ⊥
   pub resting-frame : (answers : ℕ → B → ℕ) → FrameMeets calls (restsEncoding calls answers) → ⊥
 
--- ---- no idle decoder, of those that are called so and whose output is to be a definition's, meets the demands
-pub record NoIdleDecoder {B : Type 0} (calls : Receiving B) (definition : Decoder B) : Type 0 where
+-- ---- no idle decoder, of those that are called so, meets the demands
+pub record NoIdleDecoder {B : Type 0} (calls : Receiving B) : Type 0 where
   -- "Always refusing, or always saying false: the refusal table and demand 3's unchanged frame shut them out."
   pub refusing : (number : ℕ → B → ℕ) → ((code : ℕ) (b : B) → 1 ≤ number code b) → DecodesByTable calls (refuses calls number) → ⊥
   pub failing : (d : Decoder B) → FrameReturns calls (fails d) → ⊥
@@ -78,12 +78,15 @@ pub record NoIdleDecoder {B : Type 0} (calls : Receiving B) (definition : Decode
   pub copying : (says : Reports B) → SaysTrue calls says → SuccessMeets calls (copies calls says) → ⊥
   -- doing nothing, whatever it says: an unchanged frame comes back
   pub resting-frame : (says : Reports B) → FrameReturns calls (rests calls says) → ⊥
-  -- copying input to output, whatever it says: the output is the definition's
-  pub copying-output : (says : Reports B) → DecodesAs definition (copies calls says) → ⊥
+  -- copying input to output, whatever it says: the output is that of the steps
+  pub copying-output : (says : Reports B) → DecodesAs calls (copies calls says) → ⊥
   -- "All the work in pass 0, later passes for show: demand 2 fixes the output for each limit."
-  pub working-once : (d : Decoder B) → DecodesAs definition (worksOnce d) → ⊥
-  -- "A made-up iteration number: it must be the pass at which the equations first hold": it is the number of any decoder that counts its passes
-  pub made-up : (d : Decoder B) (number : ℕ → B → ℕ → ℕ) → CountsPasses calls d → CountsPasses calls (renumbered number d)
-      → (code : ℕ) (b : B) (limit : ℕ) → calls .answer code b ≡ 0 → number code b limit ≡ d code b limit .report .iters
-  -- so no one number will do
-  pub one-number : (n : ℕ) → CountsPasses calls (renumbered (λ code b limit. n) definition) → ⊥
+  pub working-once : (d : Decoder B) → DecodesAs calls (worksOnce d) → ⊥
+  -- "A made-up iteration number: it must be the pass at which the equations first hold": decoders that count their passes say the same, so
+  -- none has a number of its own, or tests only every second pass
+  pub made-up : (d e : Decoder B) → CountsPasses calls d → CountsPasses calls e → (code : ℕ) (b : B) (limit : ℕ) → calls .answer code b ≡ 0
+      → (d code b limit .report .success ≡ e code b limit .report .success) × (d code b limit .report .iters ≡ e code b limit .report .iters)
+  -- and no one number will do
+  pub one-number : (d : Decoder B) (n : ℕ) → CountsPasses calls (renumbered (λ code b limit. n) d) → ⊥
+  -- "Demand 3's last two sentences alone suit a decoder that never succeeds; demand 2 rules that out."
+  pub never-succeeding : (d : Decoder B) → DecodesAs calls (fails d) → ⊥

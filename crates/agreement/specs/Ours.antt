@@ -2,14 +2,22 @@
 use mathlib.Core.List.{List}
 use Prim.Native.Nat.{ℕ, _/_}
 use lib.ListN.{length, take}
+use Rattle.maths.specs.Budget.{iterated}
 use Rattle.codes.specs.Answers.{firstOf}
-use Rattle.codes.specs.Codes.{rowOf}
-use Rattle.encoder.specs.Outcomes.{encodeOutcome, copyEncodeOutcome}
-use Rattle.bit_flip.specs.Outcome.{tests, outcome}
+use Rattle.codes.specs.Codes.{rowOf, checksIn}
+use Rattle.codes.specs.Edges.{edges}
+use Rattle.codes.specs.Equations.{wordOf}
+use Rattle.report.specs.Report.{ending}
+use Rattle.encoder.specs.Outcomes.{encodeTests, copyTests, encodeOutcome, copyEncodeOutcome}
+use Rattle.bit_flip.specs.Flip.{flipped}
+use Rattle.bit_flip.specs.Erasures.{erasurePasses}
+use Rattle.bit_flip.specs.Outcome.{received, punctured, decoded, tests, outcome}
 use Rattle.min_sum.specs.Confidence.{Confidence}
+use Rattle.min_sum.specs.MinSum.{hardBits, start, pass}
+use Rattle.min_sum.specs.MinSum as soft
 use Rattle.min_sum.specs.Hard.{toHard}
 use Rattle.min_sum.specs.Outcomes.{decodeAnswer, decodeOutcome}
-use Rattle.agreement.specs.Demands.{Encoder, Sending, Told, told, Decoder, Receiving}
+use Rattle.agreement.specs.Demands.{Encoder, Sending, told, Decoder, Receiving}
 
 -- ---- `encode` is lent the codeword, whose first k/8 bytes are the message
 abbrev pub encoder : Encoder (List ℕ)
@@ -18,7 +26,7 @@ encoder = encodeOutcome
 abbrev pub encoding : Sending (List ℕ)
 encoding =
     record {
-      answer = λ code s. encodeOutcome code s .answer;
+      answer = λ code s. firstOf (encodeTests code (length s));
       message = λ code s. take (rowOf code .k / 8) s;
       codeword = λ s. s;
     }
@@ -34,7 +42,7 @@ copyEncoder code b = copyEncodeOutcome code (b .message) (b .codeword)
 abbrev pub copyEncoding : Sending Copied
 copyEncoding =
     record {
-      answer = λ code b. copyEncoder code b .answer;
+      answer = λ code b. firstOf (copyTests code (length (b .message)) (length (b .codeword)));
       message = λ code b. b .message;
       codeword = λ b. b .codeword;
     }
@@ -50,12 +58,19 @@ bitFlip code b limit =
     let x = outcome code (b .input) (b .output) (b .working) limit in
     told (x .report) (x .output)
 
+-- "find broken checks": the word of a pass is what the erasure pass and the flips before it left
+abbrev pub flippedIn : ℕ → List ℕ → ℕ → ℕ → ℕ → ℕ
+flippedIn code input limit i =
+    wordOf (iterated (flipped (edges code)) i (erasurePasses (punctured code) (edges code) (rowOf code .«punctured_bits») limit (received code input) .word))
+
 abbrev pub bitFlipping : Receiving Hard
 bitFlipping =
     record {
       answer = λ code b. firstOf (tests code (length (b .input)) (length (b .output)) (length (b .working)));
       word = λ b. b .input;
       output = λ b. b .output;
+      hand = λ code b. flippedIn code (b .input);
+      steps = λ code b limit. let x = decoded code (b .input) limit in told (x .report) (x .output);
     }
 
 -- ---- min-sum is lent the LLRs, whose hard bits are the word, the output and two working buffers
@@ -71,10 +86,20 @@ module _ {C : Type 0} (o : Confidence C) where
       let x = decodeOutcome o code (b .llrs) (b .output) (b .working) (b .signs) limit in
       told (x .report) (x .output)
 
+  -- "If the hard bits of the marginals meet every equation": the word of a pass is what the passes up to it left
+  abbrev pub marginalsIn : ℕ → List C → ℕ → ℕ → ℕ
+  marginalsIn code llrs i =
+      let es = edges code in
+      let m = checksIn code in
+      let p = rowOf code .«punctured_bits» in
+      hardBits o (pass o es m p llrs (iterated (pass o es m p llrs) i (start o es m p llrs)) .marginals)
+
   abbrev pub minSumming : Receiving (Soft C)
   minSumming =
       record {
         answer = λ code b. decodeAnswer code (length (b .llrs)) (length (b .output)) (length (b .working)) (length (b .signs));
         word = λ b. toHard o (b .llrs);
         output = λ b. b .output;
+        hand = λ code b limit. marginalsIn code (b .llrs);
+        steps = λ code b limit. let e = soft.decoded o code (b .llrs) limit in told (ending (e .success) (e .turns)) (toHard o (e .state .marginals));
       }

@@ -147,7 +147,7 @@ module _ (code limit : ℕ) (input : List ℕ) where
   unfolding decoded decodeWord first last
   last-holds e = passes-success (edges code) (checksIn code) limit first e
 
--- "whatever it calls a success meets every parity equation"
+-- what it calls a success meets every parity equation
 pub success-meets : (code : ℕ) (input output working : List ℕ) (limit : ℕ) → outcome code input output working limit .report .success ≡ true
     → Meets code (bitAt (outcome code input output working limit .output))
 success-meets code input output working limit e =
@@ -166,7 +166,7 @@ received-word s t h = fun-ext (λ v. at v (decLt v t))
     at v (no k) =
         List·getD-eq-default (span (bitAt s) 0 t) 0 (omega (arith, span-length (bitAt s) 0 t)) ∙ sym (bitAt-past s v (omega arith))
 
--- "on a TC word that meets the equations, with maxiters at least 1, it answers (true, 0) and the word"
+-- a TC word that meets the equations comes back with (true, 0), where maxiters is at least 1
 pub clean : (code : ℕ) (input output working : List ℕ) (limit : ℕ) → TC code → answerOf code input output working ≡ 0 → Bytes input
     → Meets code (bitAt input) → 1 ≤ limit → outcome code input output working limit ≡ left (ending true 0) input (replicate (bitsIn code) 0)
 unfolding decoded decodeWord
@@ -184,7 +184,7 @@ clean code input output working limit tc e bytes meets h =
     is-accepted code input output working limit e
     ∙ rw (f, run-at-once (pass (edges code) (checksIn code)) limit (received code input) (received code input) h p, o, w, pack-again input bytes)
 
--- "With maxiters 0: (false, 0), the input followed by zeros", whatever the input
+-- with maxiters 0: (false, 0) and the input followed by zeros, whatever the input
 pub limit-none : (code : ℕ) (input output working : List ℕ) → answerOf code input output working ≡ 0 → Bytes input
     → outcome code input output working 0 ≡ left (ending false 0) (input ++ replicate (rowOf code .«output_len» - length input) 0) (replicate (bitsIn code) 0)
 unfolding decoded decodeWord run

@@ -196,6 +196,6 @@ unroll-by w true e =
 pub unroll : (w : ParityIter) → remaining w ≡ after (stepOf w)
 unroll w = unroll-by w (stands w) refl
 
--- for a caller: what an answer of `step` says of the edges left
-pub stepped : (w : ParityIter) (s : Step) → s ≡ stepOf w → remaining w ≡ after s
-stepped w s e = unroll w ∙ ap after (sym e)
+-- the promise of `step`, by the step that it answers
+pub stepped : (w : ParityIter) (s : Step) → s ≡ stepOf w → (s ≡ stepOf w) × (after s ≡ remaining w)
+stepped w s e = (e, ap after e ∙ sym (unroll w))

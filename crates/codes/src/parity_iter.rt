@@ -5,7 +5,7 @@ ghost use Prim.Native.Nat.{_<_, _≤_, _%_};
 ghost use Rattle.codes.specs.Codes.{made};
 ghost use Rattle.codes.specs.Blocks.{blockOf, cellsFrom, blocksFrom, headOf};
 ghost use Rattle.codes.specs.Edges.{identityColumn, permutationColumn};
-ghost use Rattle.codes.specs.Walk.{Inside, matrix, startAt, begunOf, nextOf, nextStep, stepOf};
+ghost use Rattle.codes.specs.Walk.{Inside, matrix, remaining, startAt, begunOf, nextOf, nextStep, stepOf, after};
 use crate::ACCEPTED;
 use crate::CODES;
 use crate::UNKNOWN_CODE;
@@ -206,8 +206,9 @@ impl ParityIter {
         )
     }
 
+    // One step: an edge and the walk after it, or that there is none. What it says of the edges is what this walk has left.
     pub fn step(self) -> Step
-        ensures { λ r. ⌜ r ≡ stepOf self ⌝ }
+        ensures { λ r. ⌜ (r ≡ stepOf self) × (after r ≡ remaining self) ⌝ }
     {
         let code = self.code;
         let row = self.row;

@@ -5,7 +5,8 @@ use Prim.Native.Nat.{ℕ, zero, suc, _+_, _-_, _≤_, _<_}
 use native.Mathlib.Nat.{sub-zero}
 use native.Mathlib.Numerals.{add-one}
 use native.Mathlib.Omega.{arith}
-use Rattle.maths.specs.Budget.{Turn, stop, go, End, end, follow, run}
+use Rattle.maths.specs.Tests.{pick}
+use Rattle.maths.specs.Budget.{Turn, stop, go, End, end, follow, run, iterated}
 
 module _ {S : Type 0} (turn : S → Turn S) where
   -- a loop that runs the turns from number 0 on has the same end as the definition
@@ -62,3 +63,27 @@ module _ {S : Type 0} (turn : S → Turn S) where
   unfolding run
   run-at-once zero s t h e = absurd (omega arith)
   run-at-once (suc b) s t h e = rw e
+
+-- ---- turns that stop where a test holds of the state, and go on with the next state
+module _ {S : Type 0} (turn : S → Turn S) (good : S → Bool) (next final : S → S) (is : (s : S) → turn s ≡ pick (good s) (stop (final s)) (go (next s))) where
+  -- how such a run ends: the test holds in no turn and all are made, or the run has the number of the first turn in which it holds
+  pub data Ends (b n : ℕ) (s : S) (e : End S) : Type 0 where
+    spent : e .success ≡ false → e .turns ≡ n + b → ((i : ℕ) → i < b → good (iterated next i s) ≡ false) → Ends b n s e
+    stopped : (k : ℕ) → k < b → e .success ≡ true → e .turns ≡ n + k → good (iterated next k s) ≡ true
+        → ((i : ℕ) → i < k → good (iterated next i s) ≡ false) → Ends b n s e
+
+  -- what holds of the first state and of those after it
+  from-first : (b : ℕ) (s : S) → good s ≡ false → ((i : ℕ) → i < b → good (iterated next i (next s)) ≡ false) → (i : ℕ) → i < suc b → good (iterated next i s) ≡ false
+  unfolding iterated
+  from-first b s e h zero l = e
+  from-first b s e h (suc i) l = h i (omega arith)
+
+  pub run-ends : (b n : ℕ) (s : S) → Ends b n s (run turn b n s)
+  unfolding run iterated
+  run-ends zero n s = spent refl (omega arith) (λ i h. absurd (omega arith))
+  run-ends (suc b) n s = by (good s) refl (run-ends b (suc n) (next s))
+    where
+      by : (g : Bool) → good s ≡ g → Ends b (suc n) (next s) (run turn b (suc n) (next s)) → Ends (suc b) n s (follow (turn s) n (run turn b (suc n)))
+      by true e ih = rw (is s, e) (stopped 0 (omega arith) refl (omega arith) e (λ i h. absurd (omega arith)))
+      by false e (spent f t h) = rw (is s, e) (spent f (omega arith) (from-first b s e h))
+      by false e (stopped k l f t g h) = rw (is s, e) (stopped (suc k) (omega arith) f (omega arith) g (from-first k s e h))

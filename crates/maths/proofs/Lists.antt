@@ -81,6 +81,20 @@ keep-holds f (x ∷ xs) = go (f x) refl (keep-holds f xs)
     go true e t = both-make (f x) (all f (keep f xs)) (true-T (f x) e) t
     go false e t = t
 
+-- a test of what is kept, by one of all
+pub all-kept : {A B : Type 0} (f p : A → Bool) (h : A → B) (g : B → Bool) (xs : List A) → T (all f xs) → ((x : A) → T (f x) → T (g (h x)))
+    → T (all g (map h (keep p xs)))
+all-kept f p h g [] t k = tt
+all-kept f p h g (x ∷ xs) t k = go (p x) (all-kept f p h g xs (both-right (f x) (all f xs) t) k)
+  where
+    go : (b : Bool) → T (all g (map h (keep p xs))) → T (all g (map h (pick b (x ∷ keep p xs) (keep p xs))))
+    go true ih = both-make (g (h x)) (all g (map h (keep p xs))) (k x (both-left (f x) (all f xs) t)) ih
+    go false ih = ih
+
+pub keep-nothing : {A : Type 0} (f p : A → Bool) (xs : List A) → T (all f xs) → ((x : A) → T (f x) → p x ≡ false) → keep p xs ≡ []
+keep-nothing f p [] t k = refl
+keep-nothing f p (x ∷ xs) t k = rw (k x (both-left (f x) (all f xs) t)) (keep-nothing f p xs (both-right (f x) (all f xs) t) k)
+
 -- a test that holds of every element keeps them all
 pub keep-all : {A : Type 0} (f : A → Bool) (xs : List A) → T (all f xs) → keep f xs ≡ xs
 keep-all f [] t = refl

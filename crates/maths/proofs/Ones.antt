@@ -1,7 +1,7 @@
 -- Laws of words with few ones: a sum with the word of one bit, and the places at which a word is not 0. Assumes nothing.
 use mathlib.Core.Bool.{Bool, true, false}
 use mathlib.Core.Logic.{_≢_}
-use mathlib.Core.Path.{_≡_, refl, sym, ap₂, _∙_}
+use mathlib.Core.Path.{_≡_, refl, sym, ap, ap₂, _∙_}
 use mathlib.Core.List.{List, [], _∷_}
 use Prim.Native.Nat.{ℕ, zero, suc, _+_, _*_, _≤_, _<_}
 use native.Mathlib.Nat.{mul-zero, zero-mul, mul-one, one-mul}
@@ -13,8 +13,18 @@ use borrow.Author.Tests.{eq-eqb, ne-eqb, lt-ltb}
 use Rattle.maths.specs.Tests.{pick, all}
 use Rattle.maths.specs.Sums.{sumL, sumN}
 use Rattle.maths.specs.Ones.{delta, ones}
-use Rattle.maths.proofs.Tests.{both-left, both-right}
+use Rattle.maths.proofs.Tests.{both-left, both-right, eqb-swap}
 use Rattle.maths.proofs.Sums.{sumL-sumN, sumN-ext, sumL-mul}
+
+pub delta-low : (x v : ℕ) → delta x v < 2
+delta-low x v = go (eqb v x)
+  where
+    go : (b : Bool) → pick {A = ℕ} b 1 0 < 2
+    go true = omega arith
+    go false = omega arith
+
+pub delta-swap : (x v : ℕ) → delta x v ≡ delta v x
+delta-swap x v = ap (λ (b : Bool). pick b 1 0) (eqb-swap v x)
 
 pub delta-self : (x : ℕ) → delta x x ≡ 1
 delta-self x = rw (eq-eqb x x refl)

@@ -1,7 +1,7 @@
 -- Laws of sums of natural numbers, and of evenness. Assumes nothing.
 use mathlib.Core.Path.{_≡_, refl, sym, ap, ap₂, _∙_}
 use mathlib.Core.List.{List, [], _∷_, _++_, map}
-use Prim.Native.Nat.{ℕ, zero, suc, _+_, _*_, _/_, _%_, _<_}
+use Prim.Native.Nat.{ℕ, zero, suc, _+_, _*_, _/_, _%_, _≤_, _<_}
 use native.Mathlib.Nat.{add-zero, add-suc, add-comm, mul-zero, mul-suc, zero-mul, suc-mul, mul-add, mul-mod-left, mul-assoc, le-suc, le-refl, le-trans, div-add-mod'}
 use native.Mathlib.Omega.{arith}
 use Rattle.maths.specs.Lists.{span}
@@ -65,6 +65,10 @@ even-sumN (suc n) f h = even-add (sumN n f) (f n) (even-sumN n f (λ i l. h i (l
 pub sumN-ext : (n : ℕ) (f g : ℕ → ℕ) → ((i : ℕ) → i < n → f i ≡ g i) → sumN n f ≡ sumN n g
 sumN-ext zero f g h = refl
 sumN-ext (suc n) f g h = ap₂ (λ (x y : ℕ). x + y) (sumN-ext n f g (λ i l. h i (le-trans l (le-suc n)))) (h n (le-refl (suc n)))
+
+pub sumN-le : (n : ℕ) (f g : ℕ → ℕ) → ((i : ℕ) → i < n → f i ≤ g i) → sumN n f ≤ sumN n g
+sumN-le zero f g h = omega arith
+sumN-le (suc n) f g h = omega (arith, sumN-le n f g (λ i l. h i (omega arith)), h n (omega arith))
 
 pub sumN-mod : (n : ℕ) (f g : ℕ → ℕ) → ((i : ℕ) → i < n → f i % 2 ≡ g i % 2) → sumN n f % 2 ≡ sumN n g % 2
 sumN-mod zero f g h = refl

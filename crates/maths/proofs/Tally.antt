@@ -97,6 +97,11 @@ module _ {A : Type 0} (f : A → Bool) where
           unlike y false g u = g
       go false e t n = omega arith
 
+-- a test that nothing passes
+pub tally-false : {A : Type 0} (xs : List A) → tally (λ x. false) xs ≡ 0
+tally-false [] = refl
+tally-false (x ∷ xs) = omega (arith, tally-false xs)
+
 -- the sum over numbers of the word with the one bit v: how many of them are v
 pub sum-tally : {A : Type 0} (h : A → ℕ) (xs : List A) (v : ℕ) → sumL (map h xs) (delta v) ≡ tally (λ x. eqb (h x) v) xs
 sum-tally h [] v = refl

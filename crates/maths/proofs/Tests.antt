@@ -1,13 +1,15 @@
 -- What a test that is computed over a whole list, or over every number below a bound, says at each place. Assumes nothing.
 use mathlib.Core.Bool.{Bool, true, false}
 use mathlib.Core.Logic.{⊎-elim}
-use mathlib.Core.Path.{_≡_, refl, sym, subst}
+use mathlib.Core.Path.{_≡_, refl, sym, _∙_, subst}
 use mathlib.Core.List.{List, [], _∷_, _++_, flatMap}
 use Prim.Native.Nat.{ℕ, zero, suc, _+_, _<_}
 use native.Mathlib.Nat.{add-zero, add-suc, suc-add, le-of-suc-le-suc, not-suc-le-zero, eq-or-lt-of-le}
+use native.Mathlib.Decide.{ℕ-discrete}
 use native.Mathlib.Omega.{arith}
 use lib.Dec.{T, eqb, eqb→eq}
 use lib.ListN.{length, getD}
+use borrow.Author.Tests.{ne-eqb}
 use Rattle.maths.specs.Tests.{pick, both, all, below}
 use Rattle.maths.specs.Lists.{span}
 
@@ -38,6 +40,19 @@ both-true false = refl
 pub both-false : (a : Bool) → both a false ≡ false
 both-false true = refl
 both-false false = refl
+
+pub both-swap : (a b c : Bool) → both a (both b c) ≡ both b (both a c)
+both-swap true true c = refl
+both-swap true false c = refl
+both-swap false true c = refl
+both-swap false false c = refl
+
+pub eqb-swap : (x y : ℕ) → eqb x y ≡ eqb y x
+eqb-swap x y = go (ℕ-discrete x y)
+  where
+    go : Dec (x ≡ y) → eqb x y ≡ eqb y x
+    go (yes e) = rw e
+    go (no e) = ne-eqb x y e ∙ sym (ne-eqb y x (λ q. e (sym q)))
 
 -- of the element at an index below the length
 pub all-at : {A : Type 0} (f : A → Bool) (d : A) (xs : List A) → T (all f xs) → (k : ℕ) → k < length xs → T (f (getD xs k d))

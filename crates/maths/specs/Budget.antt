@@ -25,3 +25,8 @@ follow (go s) n rest = rest s
 unfoldable pub run : {S : Type 0} → (S → Turn S) → ℕ → ℕ → S → End S
 run turn zero n s = end false n s
 run turn (suc budget) n s = follow (turn s) n (run turn budget (suc n))
+
+-- what is left of a state by so many steps
+unfoldable pub iterated : {S : Type 0} → (S → S) → ℕ → S → S
+iterated step zero s = s
+iterated step (suc n) s = iterated step n (step s)

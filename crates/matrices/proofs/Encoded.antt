@@ -1,9 +1,8 @@
 -- The encoder's bytes: their bits are the frame of the message's bits, so those of a TC code meet its equations. Assumes nothing.
-use mathlib.Core.Logic.{_≢_}
 use mathlib.Core.Path.{_≡_, sym, ap, _∙_}
 use mathlib.Core.List.{List}
 use Prim.Native.Nat.{ℕ, _-_, _*_, _/_, _%_, _≤_, _<_}
-use native.Mathlib.Nat.{mod-mod, lt-of-not-le}
+use native.Mathlib.Nat.{mod-mod}
 use native.Mathlib.Decide.{decLt}
 use native.Mathlib.Omega.{arith}
 use lib.ListN.{length, take, length-append}
@@ -12,7 +11,6 @@ use borrow.Author.Tests.{le-ltb}
 use Rattle.maths.specs.Sums.{sumN}
 use Rattle.maths.specs.Bits.{bitAt}
 use Rattle.maths.specs.Bytes.{Bytes, pack}
-use Rattle.maths.specs.Distance.{distance}
 use Rattle.maths.proofs.Bytes.{bitAt-left, bitAt-right, bitAt-pack, length-pack, bytes-pack, bytes-append}
 use Rattle.codes.specs.Codes.{Known, TC, rowOf}
 use Rattle.codes.specs.Equations.{Meets}
@@ -22,7 +20,6 @@ use Rattle.matrices.proofs.Sizes.{parityBytes, Sizes, sizes, tc-bits}
 use Rattle.matrices.proofs.Edges.{meets-same}
 use Rattle.matrices.proofs.Frames.{frame-data}
 use Rattle.matrices.proofs.Telecommand.{frame-meets}
-use Rattle.matrices.proofs.Distances.{near-same}
 
 -- the bytes of parity
 abbrev tail : ℕ → List ℕ → List ℕ
@@ -75,15 +72,3 @@ encoded-meets code tc msg len =
     let known : Known code = omega arith in
     meets-same code known (frameOf code (bitAt msg)) (bitAt (encodedBytes code msg))
     (λ v h. ap (λ (x : ℕ). x % 2) (sym (encoded-bits code known msg len v (omega (arith, tc-bits code tc))))) (frame-meets code tc (bitAt msg))
-
--- the bytes of different messages are four bits apart at least
-pub encoded-apart : (code : ℕ) → TC code → (msg msg′ : List ℕ) → length msg ≡ rowOf code .k / 8 → length msg′ ≡ rowOf code .k / 8
-    → Bytes msg → Bytes msg′ → msg ≢ msg′ → 4 ≤ distance (encodedBytes code msg) (encodedBytes code msg′)
-encoded-apart code tc msg msg′ len len′ hs hs′ ne =
-    lt-of-not-le (λ near. ne (sym (encoded-front code msg len) ∙ ap (take (rowOf code .k / 8)) (same near) ∙ encoded-front code msg′ len′))
-  where
-    same : distance (encodedBytes code msg) (encodedBytes code msg′) ≤ 3 → encodedBytes code msg ≡ encodedBytes code msg′
-    same =
-        near-same code tc (encodedBytes code msg) (encodedBytes code msg′) (encoded-length code (omega arith) msg len)
-        (encoded-meets code tc msg len) (encoded-meets code tc msg′ len′) (encoded-length code (omega arith) msg′ len′)
-        (encoded-bytes code msg hs) (encoded-bytes code msg′ hs′)

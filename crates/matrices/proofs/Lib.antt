@@ -9,7 +9,6 @@ pub mod Entries
 pub mod Frames
 pub mod Generators
 pub mod Turning
-pub mod Columns
 pub mod Weights
 pub mod Apart
 pub mod Telecommand

@@ -68,7 +68,7 @@ sumRow b [] W t = 0
 sumRow b (k ∷ ks) W t = W (k .col) ((k .turn + t) % b) + sumRow b ks W t
 
 module _ (b : ℕ) where
-  sum-row : (ks : List Circ) (w : ℕ → ℕ) (t : ℕ) → sumL (map (spot b t) ks) w ≡ sumRow b ks (λ q x. w (q * b + x)) t
+  pub sum-row : (ks : List Circ) (w : ℕ → ℕ) (t : ℕ) → sumL (map (spot b t) ks) w ≡ sumRow b ks (λ q x. w (q * b + x)) t
   sum-row [] w t = refl
   sum-row (k ∷ ks) w t = ap (λ (x : ℕ). w (spot b t k) + x) (sum-row ks w t)
 

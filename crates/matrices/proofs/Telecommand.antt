@@ -1,6 +1,5 @@
--- TC128, TC256, TC512: every frame meets the equations; every column is odd, and no two are equal. Assumes nothing.
+-- TC128, TC256, TC512: every frame meets the equations, and every column is odd. Assumes nothing.
 use mathlib.Core.Bool.{Bool}
-use mathlib.Core.Logic.{_≢_}
 use mathlib.Core.Path.{sym, subst, subst₂}
 use mathlib.Core.List.{List, flatMap}
 use Prim.Native.Nat.{ℕ, _*_, _<_}
@@ -20,22 +19,18 @@ use Rattle.codes.proofs.Flat.{edges-ranged}
 use Rattle.matrices.specs.Circulants.{edgesOf, circulantOf, circs, circsAt, blockCircs}
 use Rattle.matrices.specs.Frames.{generator, frameOf}
 use Rattle.matrices.specs.Generators.{systematic, gEntry}
-use Rattle.matrices.specs.Columns.{Nonzero, Differ, Odd}
+use Rattle.matrices.specs.Columns.{Odd}
 use Rattle.matrices.proofs.Sizes.{dataBlocks, checkBlocks, bitBlocks, sizes}
 use Rattle.matrices.proofs.Circulants.{edges-circs}
 use Rattle.matrices.proofs.Edges.{hold-sum, even-word}
 use Rattle.matrices.proofs.Rows.{inRow, sumRow}
 use Rattle.matrices.proofs.Generators.{frame-of-product}
 use Rattle.matrices.proofs.Turning.{based, rowsTest, rows-tested, row-meets}
-use Rattle.matrices.proofs.Columns.{colTest, columns-nonzero, columns-differ}
 use Rattle.matrices.proofs.Weights.{oddTest, columns-odd}
 
 -- ---- the computed tests
 abbrev rowsOf : ℕ → Bool
 rowsOf code = rowsTest (circulantOf code) (dataBlocks code) (checkBlocks code) (circs code) (generator code)
-
-abbrev columnsOf : ℕ → Bool
-columnsOf code = let ks = circs code in below (bitBlocks code) (colTest (circulantOf code) (checkBlocks code) ks)
 
 abbrev oddsOf : ℕ → Bool
 oddsOf code = let ks = circs code in below (bitBlocks code) (oddTest ks)
@@ -43,10 +38,6 @@ oddsOf code = let ks = circs code in below (bitBlocks code) (oddTest ks)
 rows-hold : T (below tcCodes rowsOf)
 unfolding rows tables prototypes generators circs flatMap blockCircs circsAt span blocksOf lastRows rowBlocks cellBlocks blockOf
 rows-hold = tt
-
-columns-hold : T (below tcCodes columnsOf)
-unfolding rows tables prototypes circs flatMap blockCircs circsAt span blocksOf lastRows rowBlocks cellBlocks blockOf
-columns-hold = tt
 
 odds-hold : T (below tcCodes oddsOf)
 unfolding rows tables prototypes circs flatMap blockCircs circsAt span blocksOf lastRows rowBlocks cellBlocks blockOf
@@ -84,21 +75,6 @@ module _ (code : ℕ) (tc : TC code) where
   pub frame-meets : (d : ℕ → ℕ) → Meets code (frameOf code d)
   frame-meets d =
       hold-sum (edges code) (checksIn code) (rowOf code .k) d (gEntry code) (frameOf code d) generator-meets (frame-of-product code known d)
-
-  columns-tested : T (below (bitBlocks code) (colTest (circulantOf code) (checkBlocks code) (circs code)))
-  columns-tested = below-at tcCodes columnsOf columns-hold code tc
-
-  -- no column is zero
-  pub column-nonzero : (x : ℕ) → x < bitsIn code → Nonzero (edges code) (checksIn code) x
-  column-nonzero x =
-      of-edges code known (λ es m n k. x < n → Nonzero es m x)
-      (columns-nonzero (circulantOf code) (checkBlocks code) (bitBlocks code) (sizes code known .some) (circs code) columns-tested x)
-
-  -- no two columns are equal
-  pub column-differ : (x y : ℕ) → x < bitsIn code → x ≢ y → Differ (edges code) (checksIn code) x y
-  column-differ x y =
-      of-edges code known (λ es m n k. x < n → x ≢ y → Differ es m x y)
-      (columns-differ (circulantOf code) (checkBlocks code) (bitBlocks code) (sizes code known .some) (circs code) columns-tested x y)
 
   -- every bit has an odd number of edges
   pub column-odd : (x : ℕ) → x < bitsIn code → Odd (edges code) x

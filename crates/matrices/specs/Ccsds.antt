@@ -20,7 +20,7 @@ Cell = List Term
 abbrev pub O : Cell
 O = []
 
--- the identity turned right by s columns, "Φ^s"
+-- the identity turned right by s columns, Φ^s
 abbrev pub Φ : ℕ → Cell
 Φ s = turned s ∷ []
 
@@ -28,7 +28,7 @@ abbrev pub Φ : ℕ → Cell
 abbrev pub I : Cell
 I = Φ 0
 
--- the permutation matrix "Π_k", k from 1
+-- the permutation matrix Π_k, k from 1
 abbrev pub Π : ℕ → Cell
 Π k = permuted k ∷ []
 
@@ -120,15 +120,15 @@ standardOf code = getD standards code (standard 0 [])
 abbrev pub cellOf : ℕ → ℕ → ℕ → Cell
 cellOf code r c = getD (getD (standardOf code .rows) r []) c O
 
--- "θ_k"
+-- θ_k
 abbrev pub theta : ℕ → ℕ
 theta k = getD thetas (k - 1) 0
 
--- "φ_k(j, M)", by the code, which has one M
+-- φ_k(j, M), by the code, which has one M
 abbrev pub phi : ℕ → ℕ → ℕ → ℕ
 phi code k j = getD (getD (phiOf code) j []) (k - 1) 0
 
--- "π_k(i) = M/4 ((θ_k + ⌊4i/M⌋) mod 4) + (φ_k(⌊4i/M⌋, M) + i) mod M/4"
+-- π_k(i) = M/4 ((θ_k + ⌊4i/M⌋) mod 4) + (φ_k(⌊4i/M⌋, M) + i) mod M/4
 abbrev pub permutation : ℕ → ℕ → ℕ → ℕ → ℕ
 permutation code m k i =
     m / 4 * ((theta k + (4 * i) / m) % 4) + (phi code k ((4 * i) / m) + i) % (m / 4)

@@ -1,5 +1,5 @@
 -- Texts that are well-formed, texts that are not, and answers as they are printed. Assumes nothing.
-use mathlib.Core.Bool.{Bool, true, false}
+use mathlib.Core.Bool.{true, false}
 use mathlib.Core.List.{List, [], _∷_, _++_, append-assoc}
 use mathlib.Core.Path.{_≡_, refl, _∙_}
 use Prim.Native.Nat.{ℕ, _<_}
@@ -9,7 +9,7 @@ use lib.ListN.{length, replicate}
 use Rattle.maths.specs.Tests.{all}
 use Rattle.sheet.specs.declared.read.Op.the-variants.{Encode, Bf, Ms}
 use Rattle.sheet.specs.Text.{ascii, newline, glyph, decimalIn, decimal, hex, line, longest}
-use Rattle.sheet.specs.Reading.{valueOf, numberFrom, numberOf, begins, hexText, unhex, lineEnd, Sheet, malformed, sheet, field, fromFrame, fromLimit, fromOp, fromCode, parse}
+use Rattle.sheet.specs.Reading.{valueOf, numberFrom, numberOf, begins, hexText, unhex, lineEnd, malformed, sheet, field, fromFrame, fromLimit, fromOp, fromCode, parse, unread}
 use Rattle.sheet.specs.Printing.{printed}
 use Rattle.sheet.proofs.Decimals.{decimal-digit}
 use Rattle.sheet.proofs.Fields.{lines-nested}
@@ -29,15 +29,8 @@ pub edges-read : (parse (ascii "code=9\nop=encode\nmaxiters=0\nframe=\n") ≡ sh
 unfolding valueOf numberFrom numberOf begins hexText unhex lineEnd field fromFrame fromLimit fromOp fromCode parse
 edges-read = (refl, refl)
 
-abbrev refused : List ℕ → Bool
-refused s = by (parse s)
-  where
-    by : Sheet → Bool
-    by malformed = true
-    by (sheet code op maxiters frame) = false
-
 -- everything else is malformed
-pub others-refused : all refused (
+pub others-refused : all (λ s. unread (parse s)) (
     ascii "" ∷
     ascii "code=0\nop=bf\nmaxiters=01\nframe=00\n" ∷
     ascii "code=0\nop=bf\nmaxiters=4294967296\nframe=00\n" ∷

@@ -10,10 +10,12 @@ use lib.Dec.{ltb, eqb}
 use lib.ListN.{length, take, drop, length-append, length-drop}
 use lib.Seq.{drop-drop, take-all}
 use Rattle.maths.specs.Tests.{pick, both}
+use Rattle.codes.specs.Answers.{test, firstOf}
 use Rattle.sheet.specs.declared.read.Line.{Line}
 use Rattle.sheet.specs.declared.read.Line.the-variants.{Missing, Between}
+use Rattle.sheet.specs.declared.read.Reading.{Reading}
 use Rattle.sheet.specs.Text.{newline}
-use Rattle.sheet.specs.Reading.{begins, lineEnd, Sheet, malformed, field, lineAt}
+use Rattle.sheet.specs.Reading.{begins, lineEnd, Sheet, malformed, sheet, field, parse, lineAt, placed, readOf, textNumber, unread, readAnswer}
 use Rattle.sheet.proofs.Fields.{begins-word}
 
 pub begins-low : (w s : List ℕ) → begins w s ≡ true → length w ≤ length s
@@ -97,3 +99,11 @@ module _ (s : List ℕ) (at : ℕ) (key : List ℕ) (more : List ℕ → List �
 
   pub told : (r : Line) → at ≤ length s → r ≡ lineAt s at key → Told r
   told r h e = subst Told (sym e) (told-go h (begins key (drop at s)) refl (ltb stop (length s)) refl)
+
+-- ---- the promise of `read`, by what it read
+number-of : (n : ℕ) (x : Sheet) → textNumber (placed n x) ≡ firstOf (test (unread x) 9 ∷ [])
+number-of n malformed = refl
+number-of n (sheet code op maxiters frame) = refl
+
+pub read-so : (s : List ℕ) {r : Reading} → r ≡ readOf s → (r ≡ readOf s) × (textNumber r ≡ readAnswer s)
+read-so s e = (e, ap textNumber e ∙ number-of (length s) (parse s))

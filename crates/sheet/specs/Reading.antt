@@ -5,6 +5,7 @@ use Prim.Native.Nat.{ℕ, suc, _+_, _-_, _*_, _%_}
 use lib.Dec.{ltb, leb, eqb}
 use lib.ListN.{length, getD, take, drop}
 use Rattle.maths.specs.Tests.{pick, both, all}
+use Rattle.codes.specs.Answers.{test, firstOf}
 use Rattle.sheet.specs.declared.read.Op.{Op}
 use Rattle.sheet.specs.declared.read.Op.the-variants.{Encode, Bf, Ms}
 use Rattle.sheet.specs.declared.values.Number.{Number}
@@ -132,7 +133,15 @@ placed n (sheet code op maxiters frame) =
 abbrev pub readOf : List ℕ → Reading
 readOf s = placed (length s) (parse s)
 
--- "9: only the bench sheet: its text is malformed"; 0 where it is not
+-- the paper's number for each case of what is read: 9 is "only the bench sheet: its text is malformed", 0 is "accepted"
 abbrev pub textNumber : Reading → ℕ
 textNumber Malformed = 9
 textNumber (Asks q) = 0
+
+-- the number of a text: by one test, whether it is malformed
+abbrev pub unread : Sheet → Bool
+unread malformed = true
+unread (sheet code op maxiters frame) = false
+
+abbrev pub readAnswer : List ℕ → ℕ
+readAnswer s = firstOf (test (unread (parse s)) 9 ∷ [])

@@ -2,7 +2,7 @@
 ghost use mathlib.Core.Path.{_≡_};
 ghost use Prim.Native.Nat.{_≤_};
 ghost use lib.ListN.{length, drop};
-ghost use Rattle.sheet.specs.Reading.{lineEnd, lineAt, placed, fromOp, fromLimit, fromFrame, readOf};
+ghost use Rattle.sheet.specs.Reading.{lineEnd, lineAt, placed, fromOp, fromLimit, fromFrame, readOf, textNumber, readAnswer};
 use crate::values::Named;
 use crate::values::Number;
 use crate::values::digit_of;
@@ -118,7 +118,7 @@ fn op_line(text: &[u8], at: usize, code: usize) -> Reading
 
 // Reads a sheet: its parts, or that it is malformed.
 pub fn read(text: &[u8]) -> Reading
-    ensures { λ r. ⌜ r ≡ readOf (now (text .entry)) ⌝ }
+    ensures { λ r. ⌜ (r ≡ readOf (now (text .entry))) × (textNumber r ≡ readAnswer (now (text .entry))) ⌝ }
 {
     if text.len() > LONGEST {
         return Reading::Malformed;

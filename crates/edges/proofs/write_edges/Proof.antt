@@ -2,8 +2,7 @@
 use mathlib.Core.Path.{sym, ap, _∙_}
 use native.Mathlib.Omega.{arith}
 use lib.ListN.{length}
-use Rattle.codes.specs.Walk.{remaining}
-use Rattle.codes.proofs.Remaining.{stepped}
+use Rattle.codes.specs.Walk.{remaining, after}
 use borrow.Author.Needs.{needs}
 use Rattle.edges.proofs.write_edges.Statement.{statement}
 use Rattle.edges.proofs.write_edges.Tie as tie
@@ -27,7 +26,7 @@ write-edges-spec =
     (λ c κs. search needs)
     (λ c.
     let k = c .before .before .before in
-    let e = ap length (stepped _ _ (sym (k .check .given .1) ∙ k .before .before .step .ensures)) in
+    let e = ap length (sym (k .before .before .step .ensures .1) ∙ ap after (k .check .given .1)) in
     omega (arith, e))
     (λ c. tt)
     (λ c. search needs)

@@ -6,8 +6,8 @@ use native.Mathlib.Omega.{arith}
 use lib.ListN.{length}
 use Rattle.maths.specs.Lists.{fold}
 use Rattle.codes.specs.Edges.{Edge, edges}
-use Rattle.codes.specs.Walk.{remaining}
-use Rattle.codes.proofs.Remaining.{begin, stepped}
+use Rattle.codes.specs.Walk.{remaining, after}
+use Rattle.codes.proofs.Remaining.{begin}
 use Rattle.measure.specs.Sum.{added, sumOf}
 use borrow.Author.Needs.{needs}
 use Rattle.measure.proofs.measure_walk.Statement.{statement}
@@ -41,13 +41,13 @@ measure-walk-spec =
     (λ c κs. search needs)
     (λ c.
     let k = c .before .before in
-    let e = ap length (stepped _ _ (sym (k .check .given .1) ∙ k .before .before .step .ensures)) in
+    let e = ap length (sym (k .before .before .step .ensures .1) ∙ ap after (k .check .given .1)) in
     omega (arith, e))
     (λ c.
     let k = c .before .before in
     let t = k .before .before .before in
-    fold-next _ _ _ (t .loop .sum) (stepped _ _ (sym (k .check .given .1) ∙ k .before .before .step .ensures)) (t .loop .inv) (c .folded .ensures))
+    fold-next _ _ _ (t .loop .sum) (sym (k .before .before .step .ensures .1) ∙ ap after (k .check .given .1)) (t .loop .inv) (c .folded .ensures))
     (λ c. search needs)
     (λ c.
     let t = c .before .before .before in
-    fold-last _ (t .loop .sum) (stepped _ _ (sym (c .enum-told .given .1) ∙ c .before .before .step .ensures)) (t .loop .inv)))
+    fold-last _ (t .loop .sum) (sym (c .before .before .step .ensures .1) ∙ ap after (c .enum-told .given .1)) (t .loop .inv)))

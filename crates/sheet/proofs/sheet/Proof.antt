@@ -23,7 +23,7 @@ module _ (c : tie.After-q) where
   request = c .q .given .0 .0
 
   asks : Asked text request
-  asks = asked text request (sym (c .before .before .read .ensures) ∙ c .q .given .1)
+  asks = asked text request (sym (c .before .before .read .ensures .0) ∙ c .q .given .1)
 
 pub sheet-spec : {M : Type 1} → statement M
 sheet-spec =
@@ -39,7 +39,7 @@ sheet-spec =
     let r = c .before .before in
     let m = r .before in
     let d = m .before .before in
-    c .print-report .ensures ∙ rw (r .refused .ensures, asked-nothing (now (d .before .before .args .text)) (sym (d .read .ensures) ∙ m .enum-told .given .1)))
+    c .print-report .ensures ∙ rw (r .refused .ensures, asked-nothing (now (d .before .before .args .text)) (sym (d .read .ensures .0) ∙ m .enum-told .given .1)))
     (λ c. omega (arith, asks (c .before .before) .inside))
     (λ c. search needs)
     (λ c. search needs)

@@ -11,7 +11,7 @@ use Rattle.sheet.specs.declared.read.Line.{Line}
 use Rattle.sheet.specs.declared.read.Line.the-variants.{Missing, Between}
 use Rattle.sheet.specs.Text.{ascii, longest}
 use Rattle.sheet.specs.Reading.{Sheet, withNumber, digitOf, fromOp, fromCode, parse}
-use Rattle.sheet.proofs.Lines.{Told, told}
+use Rattle.sheet.proofs.Lines.{Told, told, read-so}
 use borrow.Author.Needs.{needs}
 use Rattle.sheet.proofs.read.read.Statement.{statement}
 use Rattle.sheet.proofs.read.read.Tie as tie
@@ -39,12 +39,12 @@ unfolding parse fromCode
 read-spec =
     tie.close
     (tie.spec
-    (λ c. rw (lt-leb _ _ (c .if1 .taken)))
+    (λ c. read-so (now (c .before .before .args .text)) (rw (lt-leb _ _ (c .if1 .taken))))
     (λ c. search needs)
     (λ c κs. search needs)
     (λ c. search needs)
     (λ c. search needs)
-    (λ c. rw (short (c .before .before), said (c .before .before) Missing (c .enum-told .given .1)))
+    (λ c. read-so (now (start (c .before .before) .args .text)) (rw (short (c .before .before), said (c .before .before) Missing (c .enum-told .given .1))))
     (λ c. lies (c .before) .0)
     (λ c. lies (c .before) .0)
     (λ c. omega (arith, lies (c .before) .1 .0))
@@ -54,11 +54,11 @@ read-spec =
     (λ c.
     let n = c .before .before in
     let f = n .before .before .before in
-    rw (short (f .before .before), lies f .1 .1, sym (n .digit-of .ensures) ∙ c .enum-told2 .given .1))
+    read-so (now (start (f .before .before) .args .text)) (rw (short (f .before .before), lies f .1 .1, sym (n .digit-of .ensures) ∙ c .enum-told2 .given .1)))
     (λ c. omega (arith, lies (c .before .before .before .before .before .before) .1 .0))
     (λ c κs. omega (arith, lies (c .before .before .before .before .before .before) .1 .0))
     (λ c.
     let m = c .before .before in
     let n = m .before .before in
     let f = n .before .before .before in
-    rw (short (f .before .before), lies f .1 .1, sym (n .digit-of .ensures) ∙ m .code .given .1) (c .op-line .ensures)))
+    read-so (now (start (f .before .before) .args .text)) (rw (short (f .before .before), lies f .1 .1, sym (n .digit-of .ensures) ∙ m .code .given .1) (c .op-line .ensures))))

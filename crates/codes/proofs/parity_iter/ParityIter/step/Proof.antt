@@ -19,6 +19,7 @@ use Rattle.codes.proofs.Codes.{sized, block-small}
 use Rattle.codes.specs.Sound.{Small}
 use Rattle.codes.proofs.Columns.{column-inside}
 use Rattle.codes.proofs.Walk.{step-in}
+use Rattle.codes.proofs.Remaining.{stepped}
 use Rattle.codes.proofs.parity_iter.ParityIter.step.Statement.{statement}
 use Rattle.codes.proofs.parity_iter.ParityIter.step.Tie as tie
 
@@ -79,20 +80,20 @@ unfolding stepOf thetas
 step-spec =
     tie.close
     (tie.spec
-    (λ c. simp (le-ltb _ _ (c .if1 .taken)))
-    (λ c. simp (lt-ltb _ _ (c .before .if1 .left), le-ltb _ _ (c .if2 .taken)))
-    (λ c. simp (lt-ltb _ _ (c .before .before .if1 .left), lt-ltb _ _ (c .before .if2 .left), le-ltb _ _ (c .if3 .taken)))
-    (λ c. simp (lt-ltb _ _ (c .before .before .before .if1 .left), lt-ltb _ _ (c .before .before .if2 .left), lt-ltb _ _ (c .before .if3 .left), le-ltb _ _ (c .if4 .taken)))
+    (λ c. stepped _ _ (simp (le-ltb _ _ (c .if1 .taken))))
+    (λ c. stepped _ _ (simp (lt-ltb _ _ (c .before .if1 .left), le-ltb _ _ (c .if2 .taken))))
+    (λ c. stepped _ _ (simp (lt-ltb _ _ (c .before .before .if1 .left), lt-ltb _ _ (c .before .if2 .left), le-ltb _ _ (c .if3 .taken))))
+    (λ c. stepped _ _ (simp (lt-ltb _ _ (c .before .before .before .if1 .left), lt-ltb _ _ (c .before .before .if2 .left), lt-ltb _ _ (c .before .if3 .left), le-ltb _ _ (c .if4 .taken))))
     (λ c κs. search needs)
     (λ c.
     let d = c .before .before in
-    simp (
+    stepped _ _ (simp (
       lt-ltb _ _ (d .before .before .before .if1 .left),
       lt-ltb _ _ (d .before .before .if2 .left),
       lt-ltb _ _ (d .before .if3 .left),
       lt-ltb _ _ (d .if4 .left),
       le-ltb _ _ (rw (c .before .row-of .ensures) at (c .if5 .taken)),
-    ))
+    )))
     (λ c κs. search needs)
     (λ c. search needs)
     (λ c. search needs)
@@ -114,14 +115,14 @@ step-spec =
     let a = at (c .before .before .before .before .before .before .before) in
     let k = c .before .before .before .before .before .k2 .given in
     (a .inside, (a .size, column-low a _ (k .1) _ (c .permutation-column .ensures ∙ permuted a (k .0 .0) (c .before .before .phi-of .ensures)))))
-    (λ c. let b = c .before .before in rw (step-at (at b) _ (c .enum-told .given .1)))
-    (λ c. let b = c .before .before in rw (step-at (at b) _ (c .enum-told2 .given .1)))
+    (λ c. let b = c .before .before in stepped _ _ (rw (step-at (at b) _ (c .enum-told .given .1))))
+    (λ c. let b = c .before .before in stepped _ _ (rw (step-at (at b) _ (c .enum-told2 .given .1))))
     (λ c.
     let a = at (c .before .before .before .before .before) in
-    rw (step-at a _ (c .before .before .before .k .given .1), ← a .size, ← c .before .identity-column .ensures) (c .edge .ensures))
+    stepped _ _ (rw (step-at a _ (c .before .before .before .k .given .1), ← a .size, ← c .before .identity-column .ensures) (c .edge .ensures)))
     (λ c.
     let p = c .before in
     let a = at (p .before .before .before .before .before .before .before) in
     let k = p .before .before .before .before .before .k2 .given in
     let e = p .permutation-column .ensures ∙ permuted a (k .0 .0) (p .before .before .phi-of .ensures) in
-    c .edge2 .ensures ∙ ap (nextStep _) e ∙ sym (step-at a _ (k .1))))
+    stepped _ _ (c .edge2 .ensures ∙ ap (nextStep _) e ∙ sym (step-at a _ (k .1)))))
