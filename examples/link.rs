@@ -1,7 +1,5 @@
-// Encodes a frame of TC128, flips a bit, and has it put right.
-//
-//   rt staticlib labrador_ldpc
-//   rustc -O examples/link.rs -L native=target/staticlib -l static=labrador_ldpc -o link && ./link
+// Encodes a frame of TC128, flips a bit, and has it put right. It stops where a step went wrong.
+// examples/link-rust builds the library and this, and runs it.
 extern "C" {
     fn ldpc_copy_encode(code: usize, data: *const u8, data_len: usize, codeword: *mut u8, codeword_len: usize) -> u8;
     fn ldpc_decode_bf(
@@ -26,13 +24,19 @@ fn main() {
     let data = [0u8, 1, 2, 3, 4, 5, 6, 7];
     let mut frame = [0u8; 16];
     let answer = unsafe { ldpc_copy_encode(0, data.as_ptr(), data.len(), frame.as_mut_ptr(), frame.len()) };
-    assert_eq!(answer, 0);
     println!("sent     {frame:02x?}");
+    assert_eq!(answer, 0);
+    assert_eq!(frame, [0, 1, 2, 3, 4, 5, 6, 7, 0x34, 0x99, 0x98, 0x87, 0x94, 0xe1, 0x62, 0x56]);
     let mut received = frame;
     received[0] ^= 1;
     let (mut output, mut working) = ([0u8; 16], [0u8; 128]);
-    println!("decoded  {:?}", decode_bf(0, &received, &mut output, &mut working, 20));
+    let decoded = decode_bf(0, &received, &mut output, &mut working, 20);
+    println!("decoded  {decoded:?}");
     println!("output   {output:02x?}");
-    println!("refused  {:?}", decode_bf(0, &received, &mut output, &mut working[..127], 20));
+    assert!(matches!(decoded, Ok((true, _))));
+    assert_eq!(output, frame);
+    let refused = decode_bf(0, &received, &mut output, &mut working[..127], 20);
+    println!("refused  {refused:?}");
+    assert_eq!(refused, Err(4));
     assert_eq!(output, frame);
 }
