@@ -2,7 +2,7 @@
 use mathlib.Core.Bool.{true}
 use mathlib.Core.List.{_++_, append-nil}
 use mathlib.Core.Path.{_≡_, refl, sym, ap, _∙_}
-use Prim.Native.Nat.{ℕ, _+_, _%_, _≤_}
+use Prim.Native.Nat.{ℕ, _%_}
 use native.Mathlib.Decide.{ℕ-discrete}
 use native.Mathlib.Omega.{arith}
 use lib.ListN.{length, replicate}
@@ -15,7 +15,6 @@ use Rattle.codes.specs.Edges.{edges}
 use Rattle.codes.specs.Equations.{Meets}
 use Rattle.matrices.proofs.Sizes.{tc-bits}
 use Rattle.matrices.proofs.Edges.{meets-same}
-use Rattle.report.specs.declared.Report.{Report}
 use Rattle.report.specs.Report.{ending}
 use Rattle.min_sum.specs.Confidence.{Confidence, Steady}
 use Rattle.min_sum.specs.MinSum.{Messages, at, hardBits, start, pass, met, turn, decoded}

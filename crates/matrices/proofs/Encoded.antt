@@ -1,7 +1,7 @@
 -- The encoder's bytes: their bits are the frame of the message's bits, so those of a TC code meet its equations. Assumes nothing.
 use mathlib.Core.Path.{_≡_, sym, ap, _∙_}
 use mathlib.Core.List.{List}
-use Prim.Native.Nat.{ℕ, _-_, _*_, _/_, _%_, _≤_, _<_}
+use Prim.Native.Nat.{ℕ, _-_, _*_, _/_, _%_, _<_}
 use native.Mathlib.Nat.{mod-mod}
 use native.Mathlib.Decide.{decLt}
 use native.Mathlib.Omega.{arith}
