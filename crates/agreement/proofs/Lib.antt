@@ -8,3 +8,4 @@ pub mod Zeros
 pub mod Examples
 pub mod Passes
 pub mod Idle
+pub mod Order

@@ -61,7 +61,7 @@ softLent s = record { llrs = toLlrs (negsuc 0) (pos 1) s; output = spoilt; worki
 odd-unmet : (es : List Edge) (m : ℕ) (w : ℕ → ℕ) (a : ℕ) → a < m → par es w a % 2 ≡ 1 → Hold es m w → ⊥
 odd-unmet es m w a l e h = omega (arith, h a l)
 
-unmet-false : (es : List Edge) (m : ℕ) (w : ℕ → ℕ) → (Hold es m w → ⊥) → holds es m w ≡ false
+pub unmet-false : (es : List Edge) (m : ℕ) (w : ℕ → ℕ) → (Hold es m w → ⊥) → holds es m w ≡ false
 unmet-false es m w h = by (holds es m w) refl
   where
     by : (b : Bool) → holds es m w ≡ b → b ≡ false
@@ -83,7 +83,7 @@ module _ {S : Type 0} (turn : S → Turn S) {s t : S} (goes : turn s ≡ go t) w
   unfolding run
   run-once = rw goes
 
-  run-twice : {u : S} (b : Bool) → turn t ≡ pick b (stop u) (go u) → run turn 2 0 s .state ≡ u
+  pub run-twice : {u : S} (b : Bool) → turn t ≡ pick b (stop u) (go u) → run turn 2 0 s .state ≡ u
   unfolding run
   run-twice true e = rw (goes, e)
   run-twice false e = rw (goes, e)

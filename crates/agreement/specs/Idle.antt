@@ -1,11 +1,21 @@
 -- "Try these idle versions": each as what its calls leave, and the demand that shuts it out. Assumes nothing.
 use mathlib.Core.Bool.{true, false}
+use mathlib.Core.List.{List, reverse}
 use mathlib.Core.Path.{_≡_}
 use Prim.Native.Nat.{ℕ, min, _≤_}
+use Rattle.maths.specs.Tests.{pick}
+use Rattle.maths.specs.Lists.{fold}
+use Rattle.maths.specs.Budget.{Turn, stop, go, run}
+use Rattle.codes.specs.Codes.{rowOf, checksIn}
+use Rattle.codes.specs.Edges.{Edge, edges}
 use Rattle.report.specs.declared.Report.{Report}
-use Rattle.report.specs.Report.{refusal}
+use Rattle.report.specs.Report.{refusal, ending}
 use Rattle.encoder.specs.Outcomes.{Encoded, encoded}
+use Rattle.min_sum.specs.Confidence.{Confidence}
+use Rattle.min_sum.specs.MinSum.{Messages, numbered, addMessage, takeMessage, restarted, renewed, start, met}
+use Rattle.min_sum.specs.Hard.{toHard}
 use Rattle.agreement.specs.Demands.{Encoder, Sending, EncodesByTable, EncodesData, FrameMeets, Told, told, Decoder, Receiving, DecodesByTable, SuccessMeets, FrameReturns, CountsPasses, DecodesAs}
+use Rattle.agreement.specs.Ours.{Soft}
 
 -- what a decoder says, by code, the buffers that it is lent and the limit
 abbrev pub Reports : Type 0 → Type 0
@@ -90,3 +100,20 @@ pub record NoIdleDecoder {B : Type 0} (calls : Receiving B) : Type 0 where
   pub one-number : (d : Decoder B) (n : ℕ) → CountsPasses calls (renumbered (λ code b limit. n) d) → ⊥
   -- "Demand 3's last two sentences alone suit a decoder that never succeeds; demand 2 rules that out."
   pub never-succeeding : (d : Decoder B) → DecodesAs calls (fails d) → ⊥
+
+-- ---- "Adding messages in another order: saturating sums depend on it.": min-sum that adds them from the last edge to the first
+module _ {C : Type 0} (o : Confidence C) (es : List Edge) (checks punctured : ℕ) (llrs : List C) where
+  abbrev pub backwardsPass : Messages C → Messages C
+  backwardsPass s =
+      fold (takeMessage o) (numbered 0 es) (renewed o checks (fold (addMessage o) (reverse (numbered 0 es)) (restarted o llrs punctured s)))
+
+  abbrev pub backwardsTurn : Messages C → Turn (Messages C)
+  backwardsTurn s = let t = backwardsPass s in pick (met o es checks punctured llrs t) (stop t) (go t)
+
+abbrev pub addsBackwards : {C : Type 0} → Confidence C → Decoder (Soft C)
+addsBackwards o code b limit =
+    let es = edges code in
+    let m = checksIn code in
+    let p = rowOf code .«punctured_bits» in
+    let e = run (backwardsTurn o es m p (b .llrs)) limit 0 (start o es m p (b .llrs)) in
+    told (ending (e .success) (e .turns)) (toHard o (e .state .marginals))

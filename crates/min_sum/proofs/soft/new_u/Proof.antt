@@ -20,11 +20,17 @@ new-u-spec =
     let e = n .before in
     let m = e .before .before in
     let f = m .before .before .fits in
-    cc (
+    rw (
       back w8 (c .negate-if2 .result) (c .negate-if2 .ok),
+      c .negate-if2 .ensures,
+      m .before .hard-bit .ensures,
       back w8 (n .negate-if .result) (n .negate-if .ok),
+      n .negate-if .ensures,
       back w8 (e .either .result) (e .either .ok),
+      e .either .ensures,
+      e .before .same .ensures,
       back w8 (m .magnitude .result) (m .magnitude .ok),
+      m .magnitude .ensures,
       toZ-ofZ (f .v),
       toZ-ofZ (f .first),
       toZ-ofZ (f .second),

@@ -19,10 +19,16 @@ new-v-spec =
     let e = c .before in
     let s = e .before .before .before .before in
     let f = s .before .fits in
-    cc (
+    rw (
       back w8 (c .either2 .result) (c .either2 .ok),
+      c .either2 .ensures,
+      e .before .before .before .hard-bit .ensures,
+      e .before .before .hard-bit2 .ensures,
       back w8 (e .either .result) (e .either .ok),
+      e .either .ensures,
+      e .before .same .ensures,
       back w8 (s .saturating-sub .result) (s .saturating-sub .ok),
+      s .saturating-sub .ensures,
       toZ-ofZ (f .marginal),
       toZ-ofZ (f .u),
       toZ-ofZ (f .v),
