@@ -17,7 +17,7 @@ use Rattle.codes.specs.declared.runs.Runs.{Runs}
 use Rattle.codes.specs.declared.runs.EdgeRun.{EdgeRun}
 use Rattle.codes.specs.declared.meets.Met.{Met}
 use Rattle.codes.specs.Codes.{paramsOf}
-use Rattle.codes.specs.Walk.{begunOf, stepOf}
+use Rattle.codes.specs.Walk.{remaining, begunOf, stepOf, after}
 use Rattle.codes.specs.Runs.{Run, run, runs, runsOf, readRuns, within, laid}
 use Rattle.codes.specs.Equations.{wordOf, syndromeOf, metOf}
 use Rattle.report.specs.declared.Report.{Report}
@@ -29,7 +29,7 @@ use Rattle.min_sum.specs.Outcomes.{Outcome, left, decodeOutcome, Written, writt
 use Rattle.labrador_ldpc.specs.Doors.{Row, row, paramsOutcome, Hard, hard, hardDoor, Soft, soft, softDoor}
 use Rattle.sheet.specs.declared.read.Reading.{Reading}
 use Rattle.sheet.specs.declared.print.Answer.{Answer}
-use Rattle.sheet.specs.Reading.{readOf}
+use Rattle.sheet.specs.Reading.{readOf, textNumber, readAnswer}
 use Rattle.sheet.specs.Printing.{printed, most, answerOf}
 use Rattle.sheet.specs.Sheet.{sheetOf}
 use Rattle.measure.specs.Sum.{sumOf}
@@ -58,8 +58,8 @@ params-one code = one
 pub iter-paritychecks-one : (code : ℕ) {x y : Begun} → x ≡ begunOf code → y ≡ begunOf code → x ≡ y
 iter-paritychecks-one code = one
 
-pub step-one : (walk : ParityIter) {x y : Step} → x ≡ stepOf walk → y ≡ stepOf walk → x ≡ y
-step-one walk = one
+pub step-one : (walk : ParityIter) {x y : Step} → (x ≡ stepOf walk) × (after x ≡ remaining walk) → (y ≡ stepOf walk) × (after y ≡ remaining walk) → x ≡ y
+step-one walk p q = one (p .0) (q .0)
 
 pub runs-of-one : (code : ℕ) {x y : Runs} → x ≡ runsOf code → y ≡ runsOf code → x ≡ y
 runs-of-one code = one
@@ -186,8 +186,8 @@ pub ldpc-llrs-to-hard-i8-one : (code : ℕ) (llrs : List ℤ) (output : List ℕ
 ldpc-llrs-to-hard-i8-one = llrs-to-hard-i8-one
 
 -- ---- sheet
-pub read-one : (text : List ℕ) {x y : Reading} → x ≡ readOf text → y ≡ readOf text → x ≡ y
-read-one text = one
+pub read-one : (text : List ℕ) {x y : Reading} → (x ≡ readOf text) × (textNumber x ≡ readAnswer text) → (y ≡ readOf text) × (textNumber y ≡ readAnswer text) → x ≡ y
+read-one text p q = one (p .0) (q .0)
 
 pub print-one : (answer : ℕ) (success : Bool) (iters : ℕ) (output : List ℕ) {x y : Answer}
     → x ≡ answerOf (printed answer success iters (take most output)) → y ≡ answerOf (printed answer success iters (take most output)) → x ≡ y
