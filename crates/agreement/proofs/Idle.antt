@@ -4,6 +4,7 @@ use mathlib.Core.Bool.{true, false}
 use mathlib.Core.Path.{_≡_, refl, sym, ap, _∙_}
 use Prim.Native.Nat.{ℕ, zero, suc, _%_, _<_}
 use native.Mathlib.Omega.{arith}
+use lib.IntN.{pos, negsuc}
 use lib.ListN.{length, getD}
 use Rattle.maths.specs.Bits.{bitAt}
 use Rattle.maths.specs.Bytes.{Bytes}
@@ -13,7 +14,8 @@ use Rattle.matrices.proofs.Edges.{meets-same}
 use Rattle.matrices.proofs.Encoded.{encoded-meets, encoded-bits}
 use Rattle.report.specs.Report.{ending}
 use Rattle.min_sum.specs.Confidence.{i8}
-use Rattle.min_sum.proofs.Conversions.{llrs-hard-i8}
+use Rattle.min_sum.specs.Soft.{below0}
+use Rattle.min_sum.proofs.Conversions.{llrs-hard}
 use Rattle.min_sum.proofs.Marginals.{replicate-at}
 use Rattle.min_sum.proofs.Success.{steady}
 use Rattle.agreement.specs.Parties.{Sent, by-copy-encode}
@@ -163,11 +165,12 @@ flip-receives =
     }
 
 soft-receives : Receives (minSumming i8) (minSum i8)
+unfolding below0
 soft-receives =
     record {
       lend = softLent;
       accepted = soft-accepted;
-      brings = llrs-hard-i8;
+      brings = llrs-hard i8 (negsuc 99) (pos 100) refl refl refl;
       before = λ s. refl;
       misses = soft-misses;
       moves = soft-moves;

@@ -1,6 +1,6 @@
 -- A word of TC128 that is no frame: both decoders say false after one pass, and a second pass changes what they leave. Assumes nothing.
 use mathlib.Core.Bool.{Bool, true, false}
-use mathlib.Core.List.{List, _∷_, append-nil, flatMap}
+use mathlib.Core.List.{List, [], _∷_, _++_, append-nil, flatMap}
 use mathlib.Core.Path.{_≡_, refl, sym, ap, _∙_, fun-ext}
 use Prim.Native.Nat.{ℕ, zero, suc, _+_, _-_, _%_, _<_, max}
 use native.Mathlib.Nat.{add-zero, zero-add}
@@ -38,7 +38,7 @@ use Rattle.min_sum.specs.Confidence.{i8}
 use Rattle.min_sum.specs.MinSum as soft
 use Rattle.min_sum.specs.Hard.{toHard, toLlrs}
 use Rattle.min_sum.specs.Outcomes.{Outcome, decodeAnswer}
-use Rattle.min_sum.proofs.Conversions.{llrs-length, llrs-bits-i8}
+use Rattle.min_sum.proofs.Conversions.{llrs-length, llrs-bits}
 use Rattle.min_sum.proofs.Marginals.{pass-length, first-hard}
 use Rattle.min_sum.proofs.Packed.{hard-bit}
 use Rattle.min_sum.proofs.Success.{accepted-is, steady}
@@ -55,13 +55,13 @@ abbrev pub hardLent : List ℕ → Hard
 hardLent s = record { input = s; output = spoilt; working = zeros 128 }
 
 abbrev pub softLent : List ℕ → Soft ℤ
-softLent s = record { llrs = toLlrs (negsuc 0) (pos 1) s; output = spoilt; working = replicate 1280 (pos 0); signs = zeros 8 }
+softLent s = record { llrs = toLlrs (negsuc 99) (pos 100) s; output = spoilt; working = replicate 1280 (pos 0); signs = zeros 8 }
 
 -- ---- a check whose sum is odd does not hold
 odd-unmet : (es : List Edge) (m : ℕ) (w : ℕ → ℕ) (a : ℕ) → a < m → par es w a % 2 ≡ 1 → Hold es m w → ⊥
 odd-unmet es m w a l e h = omega (arith, h a l)
 
-pub unmet-false : (es : List Edge) (m : ℕ) (w : ℕ → ℕ) → (Hold es m w → ⊥) → holds es m w ≡ false
+unmet-false : (es : List Edge) (m : ℕ) (w : ℕ → ℕ) → (Hold es m w → ⊥) → holds es m w ≡ false
 unmet-false es m w h = by (holds es m w) refl
   where
     by : (b : Bool) → holds es m w ≡ b → b ≡ false
@@ -83,7 +83,7 @@ module _ {S : Type 0} (turn : S → Turn S) {s t : S} (goes : turn s ≡ go t) w
   unfolding run
   run-once = rw goes
 
-  pub run-twice : {u : S} (b : Bool) → turn t ≡ pick b (stop u) (go u) → run turn 2 0 s .state ≡ u
+  run-twice : {u : S} (b : Bool) → turn t ≡ pick b (stop u) (go u) → run turn 2 0 s .state ≡ u
   unfolding run
   run-twice true e = rw (goes, e)
   run-twice false e = rw (goes, e)
@@ -190,35 +190,49 @@ flip-moves same =
     (λ v h. sym (bitAt-pack (wordOf (flipped (edges 0) u)) 16 v (omega arith)) ∙ ap (λ (s : List ℕ). bitAt s v) (sym e) ∙ bitAt-pack (wordOf u) 16 v (omega arith))
 
 -- ---- min-sum: its LLRs, the messages before a pass and after, and the run
-abbrev llrs : List ℤ
+abbrev pub llrs : List ℤ
 llrs = softLent spoilt .llrs
 
-abbrev begun : soft.Messages ℤ
+abbrev pub begun : soft.Messages ℤ
 begun = soft.start i8 (edges 0) 64 0 llrs
 
-abbrev next : soft.Messages ℤ → soft.Messages ℤ
+abbrev pub next : soft.Messages ℤ → soft.Messages ℤ
 next = soft.pass i8 (edges 0) 64 0 llrs
 
 abbrev ran : ℕ → End (soft.Messages ℤ)
 ran limit = run (soft.turn i8 (edges 0) 64 0 llrs) limit 0 begun
 
--- the first leaves the bits of the word, the second another bit 0
-first-bits : soft.hardBits i8 (next begun .marginals) ≡ bitAt spoilt
-first-bits =
-    fun-ext (λ v. ap (λ (b : Bool). pick b 1 0) (first-hard i8 (steady 127) (edges 0) 64 0 llrs v)
-    ∙ ap (λ (xs : List ℤ). soft.hardBits i8 xs v) (append-nil llrs) ∙ llrs-bits-i8 spoilt v)
+-- the LLRs have the bits of the word; a first pass leaves these, the second another bit 0
+pub given-bits : (v : ℕ) → soft.hardBits i8 (llrs ++ []) v ≡ bitAt spoilt v
+unfolding below0
+given-bits v = ap (λ (xs : List ℤ). soft.hardBits i8 xs v) (append-nil llrs) ∙ llrs-bits i8 (negsuc 99) (pos 100) refl refl refl spoilt v
+
+pub first-bits : soft.hardBits i8 (next begun .marginals) ≡ bitAt spoilt
+first-bits = fun-ext (λ v. ap (λ (b : Bool). pick b 1 0) (first-hard i8 (steady 127) (edges 0) 64 0 llrs v) ∙ given-bits v)
 
 second-bit : soft.hardBits i8 (next (next begun) .marginals) 0 ≡ 0
 unfolding rows tables prototypes thetas phis blockOf cellBlocks rowBlocks lastRows flatMap blocksOf edges blockEdges edgeAt span fold clamp satAdd satSub negated size below0 alike lower soft.numbered soft.addMessage soft.takeMessage soft.restarted soft.renewed soft.start soft.pass toLlrs
 second-bit = refl
 
+-- a run of passes, whichever they are, whose first leaves the bits of the word
+module _ (pass : soft.Messages ℤ → soft.Messages ℤ) (first : soft.hardBits i8 (pass begun .marginals) ≡ bitAt spoilt) where
+  abbrev passTurn : soft.Messages ℤ → Turn (soft.Messages ℤ)
+  passTurn s = pick (soft.met i8 (edges 0) 64 0 llrs (pass s)) (stop (pass s)) (go (pass s))
+
+  goes-on : passTurn begun ≡ go (pass begun)
+  unfolding soft.met rows
+  goes-on = rw (first, unmet-false (edges 0) 64 (bitAt spoilt) spoilt-unmet)
+
+  pub two-passes : run passTurn 2 0 begun .state ≡ pass (pass begun)
+  two-passes = run-twice passTurn goes-on (soft.met i8 (edges 0) 64 0 llrs (pass (pass begun))) refl
+
 soft-goes : soft.turn i8 (edges 0) 64 0 llrs begun ≡ go (next begun)
-unfolding soft.turn soft.met rows
-soft-goes = rw (first-bits, unmet-false (edges 0) 64 (bitAt spoilt) spoilt-unmet)
+unfolding soft.turn
+soft-goes = goes-on next first-bits
 
 pub soft-accepted : (s : List ℕ) → length s ≡ 16 → minSumming i8 .answer 0 (softLent s) ≡ 0
 unfolding decodeAnswer rows
-soft-accepted s e = rw (llrs-length i8 (negsuc 0) (pos 1) s, e)
+soft-accepted s e = rw (llrs-length i8 (negsuc 99) (pos 100) s, e)
 
 soft-is : (limit : ℕ) → minSum i8 0 (softLent spoilt) limit ≡ told (ending (ran limit .success) (ran limit .turns)) (toHard i8 (ran limit .state .marginals))
 unfolding rows
@@ -229,19 +243,24 @@ soft-is limit =
 pub soft-misses : minSum i8 0 (softLent spoilt) 1 .report .success ≡ false
 soft-misses = ap (λ (x : Told). x .report .success) (soft-is 1) ∙ ap (λ (x : End (soft.Messages ℤ)). x .success) (run-once (soft.turn i8 (edges 0) 64 0 llrs) soft-goes)
 
--- bit 0 of the output after a pass
-hard-first : (s : soft.Messages ℤ) → bitAt (toHard i8 (next s .marginals)) 0 ≡ soft.hardBits i8 (next s .marginals) 0
-hard-first s =
-    hard-bit i8 (next s .marginals) _ 0 (omega (arith, pass-length i8 (edges 0) 64 0 llrs s, llrs-length i8 (negsuc 0) (pos 1) spoilt))
+-- a bit of an output is that of its marginals
+pub llrs-long : length llrs ≡ 128
+llrs-long = llrs-length i8 (negsuc 99) (pos 100) spoilt
+
+pub output-bit : (xs : List ℤ) → length xs ≡ 128 → (v : ℕ) → v < 128 → bitAt (toHard i8 xs) v ≡ soft.hardBits i8 xs v
+output-bit xs e v h = hard-bit i8 xs _ v (rw e h)
+
+pub next-output : (s : soft.Messages ℤ) (v : ℕ) → v < 128 → bitAt (toHard i8 (next s .marginals)) v ≡ soft.hardBits i8 (next s .marginals) v
+next-output s = output-bit (next s .marginals) (omega (arith, pass-length i8 (edges 0) 64 0 llrs s, llrs-long))
 
 pub soft-moves : minSum i8 0 (softLent spoilt) 1 .output ≡ minSum i8 0 (softLent spoilt) 2 .output → ⊥
 unfolding soft.turn
 soft-moves same =
     let one : ran 1 .state ≡ next begun = ap (λ (x : End (soft.Messages ℤ)). x .state) (run-once (soft.turn i8 (edges 0) 64 0 llrs) soft-goes) in
-    let two : ran 2 .state ≡ next (next begun) = run-twice (soft.turn i8 (edges 0) 64 0 llrs) soft-goes (soft.met i8 (edges 0) 64 0 llrs (next (next begun))) refl in
+    let two : ran 2 .state ≡ next (next begun) = two-passes next first-bits in
     let e : toHard i8 (next begun .marginals) ≡ toHard i8 (next (next begun) .marginals) =
     ap (λ (s : soft.Messages ℤ). toHard i8 (s .marginals)) (sym one) ∙ sym (ap (λ (x : Told). x .output) (soft-is 1)) ∙ same
     ∙ ap (λ (x : Told). x .output) (soft-is 2) ∙ ap (λ (s : soft.Messages ℤ). toHard i8 (s .marginals)) two in
     let z : _≡_ {A = ℕ} 1 0 =
-    sym (ap (λ (f : ℕ → ℕ). f 0) first-bits) ∙ sym (hard-first begun) ∙ ap (λ (s : List ℕ). bitAt s 0) e ∙ hard-first (next begun) ∙ second-bit in
+    sym (ap (λ (f : ℕ → ℕ). f 0) first-bits) ∙ sym (next-output begun 0 (omega arith)) ∙ ap (λ (s : List ℕ). bitAt s 0) e ∙ next-output (next begun) 0 (omega arith) ∙ second-bit in
     omega arith
