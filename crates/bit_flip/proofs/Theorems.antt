@@ -81,11 +81,11 @@ module _ (es : List Edge) (m : ℕ) where
       (λ s t q l. subst (λ (x : List ℕ). length x ≡ length w) (sym (gone s t q)) (flipped-length es s ∙ l)) limit 0 w refl
 
 -- ---- a call that passes its tests
-abbrev answerOf : ℕ → List ℕ → List ℕ → List ℕ → ℕ
+abbrev pub answerOf : ℕ → List ℕ → List ℕ → List ℕ → ℕ
 answerOf code input output working = firstOf (tests code (length input) (length output) (length working))
 
 module _ (code : ℕ) (input output working : List ℕ) (limit : ℕ) where
-  is-accepted : answerOf code input output working ≡ 0 → outcome code input output working limit ≡ decoded code input limit
+  pub is-accepted : answerOf code input output working ≡ 0 → outcome code input output working limit ≡ decoded code input limit
   unfolding outcome
   is-accepted e = rw (eq-eqb (answerOf code input output working) 0 e)
 
@@ -158,7 +158,7 @@ success-meets code input output working limit e =
     rw (d, last-word code limit input h) (holds-hold (edges code) (checksIn code) (wordOf (last code limit input)) (last-holds code limit input s))
 
 -- ---- the bits of a byte string that is long enough
-received-word : (s : List ℕ) (t : ℕ) → 8 * length s ≤ t → wordOf (span (bitAt s) 0 t) ≡ bitAt s
+pub received-word : (s : List ℕ) (t : ℕ) → 8 * length s ≤ t → wordOf (span (bitAt s) 0 t) ≡ bitAt s
 received-word s t h = fun-ext (λ v. at v (decLt v t))
   where
     at : (v : ℕ) → Dec (v < t) → wordOf (span (bitAt s) 0 t) v ≡ bitAt s v

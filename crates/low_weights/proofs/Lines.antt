@@ -46,7 +46,7 @@ checksOn b columns v = let x = v % b in map (map (checkTo b x)) (getD columns (v
 abbrev pub inside : ℕ → ℕ → Circ → Bool
 inside mb nb k = both (ltb (k .row) mb) (ltb (k .col) nb)
 
-module _ (b mb nb : ℕ) (pos : 0 < b) (ks : List Circ) (ranged : T (all (inside mb nb) ks)) where
+module _ (b : ℕ) (pos : 0 < b) where
   -- a check is one of a bit's where the bit is one of the check's
   pub joined : (a t p x : ℕ) → t < b → x < b → (k : Circ)
       → both (eqb (k .col) p) (eqb (checkTo b x k) (a * b + t)) ≡ both (eqb (k .row) a) (eqb (spot b t k) (p * b + x))
@@ -62,6 +62,7 @@ module _ (b mb nb : ℕ) (pos : 0 < b) (ks : List Circ) (ranged : T (all (inside
         eqb-swap s x,
       ) (both-swap (eqb (k .col) p) (eqb (k .row) a) (eqb x s))
 
+module _ (b mb nb : ℕ) (pos : 0 < b) (ks : List Circ) (ranged : T (all (inside mb nb) ks)) where
   -- no row has a number from mb on
   row-empty : (a : ℕ) → mb ≤ a → inRow ks a ≡ []
   row-empty a h =
@@ -93,7 +94,7 @@ module _ (b mb nb : ℕ) (pos : 0 < b) (ks : List Circ) (ranged : T (all (inside
       at : (k : Circ) → both (eqb (k .row) a) (both (eqb (k .col) (u / b)) (eqb (checkTo b (u % b) k) c))
           ≡ both (eqb (c / b) a) (both (eqb (k .row) (c / b)) (eqb (spot b (c % b) k) u))
       at k =
-          let same = rw (div-add-mod' c b, div-add-mod' u b) at (joined (c / b) (c % b) (u / b) (u % b) (mod-lt c pos) (mod-lt u pos) k) in
+          let same = rw (div-add-mod' c b, div-add-mod' u b) at (joined b pos (c / b) (c % b) (u / b) (u % b) (mod-lt c pos) (mod-lt u pos) k) in
           rw same (go (eqb (k .row) (c / b)) refl)
         where
           go : (y : Bool) → eqb (k .row) (c / b) ≡ y

@@ -22,7 +22,7 @@ abbrev pub Once : List ℕ → Type 0
 Once vs = (c : ℕ) → occurs vs c < 2
 
 -- a number is at most one of two that differ
-delta-apart : (x y c : ℕ) → x ≢ y → delta c x + delta c y < 2
+pub delta-apart : (x y c : ℕ) → x ≢ y → delta c x + delta c y < 2
 delta-apart x y c ne = go (ℕ-discrete x c)
   where
     go : Dec (x ≡ c) → delta c x + delta c y < 2

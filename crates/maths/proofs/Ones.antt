@@ -46,6 +46,11 @@ sum-delta d v (suc n) h = go (ℕ-discrete v n) (sum-delta d v n)
     go (yes e) ih = rw (e, delta-self n, mul-one (d n)) (omega (arith, sum-delta-above d n n (λ l. omega arith)))
     go (no e) ih = rw (delta-other n v e, mul-zero (d n)) (omega (arith, ih (omega arith)))
 
+-- a sum over places, each of which gives 1, is their number
+pub sum-all : (vs : List ℕ) (w : ℕ → ℕ) → ((v : ℕ) → 0 < sumL vs (delta v) → w v ≡ 1) → sumL vs w ≡ length vs
+sum-all [] w h = refl
+sum-all (v ∷ vs) w h = omega (arith, h v (omega (arith, delta-self v)), sum-all vs w (λ u l. h u (omega arith)))
+
 -- a sum over places below n is a sum over the numbers below n, each as often as it stands among the places
 pub sum-counts : (n : ℕ) (vs : List ℕ) (w : ℕ → ℕ) → T (all (λ v. ltb v n) vs) → sumL vs w ≡ sumN n (λ v. w v * sumL vs (delta v))
 sum-counts n vs w t =

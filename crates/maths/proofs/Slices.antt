@@ -1,7 +1,7 @@
 -- A list that a loop reads or rewrites from its first element on, and its largest number. Assumes nothing.
 use mathlib.Core.Bool.{Bool, true, false}
 use mathlib.Core.List.{List, [], _∷_, _++_, map, append-nil, append-assoc}
-use mathlib.Core.Path.{_≡_, refl, sym, ap, _∙_}
+use mathlib.Core.Path.{_≡_, refl, sym, ap, _∙_, subst}
 use Prim.Native.Nat.{ℕ, zero, suc, _+_, _-_, _≤_, _<_, max}
 use native.Mathlib.Nat.{add-zero, zero-add, add-suc, suc-add, max-zero, le-of-suc-le-suc, not-suc-le-zero}
 use native.Mathlib.Numerals.{add-one}
@@ -167,3 +167,30 @@ largest-none f (suc n) =
     go : (a b : ℕ) → eqb (max a b) 0 ≡ both (eqb b 0) (eqb a 0)
     go a zero = rw max-zero
     go a (suc b) = rw (eqb·suc-zero b) (ne-eqb (max a (suc b)) 0 (λ e. omega arith))
+
+-- the largest of some numbers is one of them, and none is larger
+largest-bound : (f : ℕ → ℕ) (t s n : ℕ) → ((v : ℕ) → v < n → f (s + v) ≤ t) → largestOf (span f s n) ≤ t
+unfolding span largestOf
+largest-bound f t s zero h = omega arith
+largest-bound f t s (suc n) h =
+    let here : f s ≤ t = subst (λ (x : ℕ). f x ≤ t) (omega arith) (h 0 (omega arith)) in
+    let rest = largest-bound f t (suc s) n (λ v l. subst (λ (x : ℕ). f x ≤ t) (omega arith) (h (suc v) (omega arith))) in
+    omega arith
+
+largest-least : (f : ℕ → ℕ) (s n u : ℕ) → u < n → f (s + u) ≤ largestOf (span f s n)
+unfolding span largestOf
+largest-least f s zero u h = absurd (omega arith)
+largest-least f s (suc n) zero h = let e : f (s + 0) ≡ f s = ap f (omega arith) in omega arith
+largest-least f s (suc n) (suc u) h =
+    let e : f (s + suc u) ≡ f (suc s + u) = ap f (omega arith) in
+    let rest = largest-least f (suc s) n u (omega arith) in
+    omega arith
+
+pub largest-is : (f : ℕ → ℕ) (t n u : ℕ) → ((v : ℕ) → v < n → f v ≤ t) → u < n → f u ≡ t → largestOf (span f 0 n) ≡ t
+largest-is f t n u most hu e =
+    let z : 0 + u ≡ u = omega arith in
+    omega (
+      arith,
+      largest-bound f t 0 n (λ v h. most (0 + v) (omega arith)),
+      rw z at (largest-least f 0 n u hu),
+    )

@@ -1,11 +1,21 @@
--- Lists that are written over by the elements of another, from a place on. Assumes nothing.
+-- Lists that are written over: at one place, or by the elements of another from a place on. Assumes nothing.
 use mathlib.Core.List.{List, [], _∷_, _++_}
 use mathlib.Core.Path.{_≡_, ap, _∙_}
-use Prim.Native.Nat.{ℕ, zero, suc, _+_, _-_, _≤_}
+use Prim.Native.Nat.{ℕ, zero, suc, _+_, _-_, _≤_, _<_}
 use native.Mathlib.Nat.{add-zero, zero-add, sub-zero}
+use native.Mathlib.Decide.{ℕ-discrete, decLt}
 use native.Mathlib.Omega.{arith}
-use lib.ListN.{length, set, drop, replicate, length-replicate}
-use lib.Seq.{sets, sets-eq}
+use lib.ListN.{length, getD, set, drop, replicate, length-replicate}
+use lib.Seq.{sets, sets-eq, getD-set-same, getD-set-other, set-out}
+
+-- by an element that f takes for the one before: f sees no change
+pub set-under : {A B : Type 0} (f : A → B) (xs : List A) (i j : ℕ) (x d : A) → f x ≡ f (getD xs i d) → f (getD (set xs i x) j d) ≡ f (getD xs j d)
+set-under f xs i j x d e = by (ℕ-discrete j i) (decLt i (length xs))
+  where
+    by : Dec (j ≡ i) → Dec (i < length xs) → f (getD (set xs i x) j d) ≡ f (getD xs j d)
+    by (yes p) (yes l) = rw (p, getD-set-same xs i x d l) e
+    by (yes p) (no l) = let h : length xs ≤ i = omega arith in rw (set-out xs i x h)
+    by (no p) l = ap f (getD-set-other xs i j x d p)
 
 module _ {A : Type 0} where
   -- by two lists, one after the other

@@ -92,10 +92,25 @@ pub below-all : (n : ℕ) (f : ℕ → Bool) → ((k : ℕ) → k < n → f k �
 below-all zero f h = refl
 below-all (suc n) f h = rw (h n (omega arith)) (below-all n f (λ k l. h k (omega arith)))
 
+-- two tests that agree at each number
+pub below-same : (n : ℕ) (f g : ℕ → Bool) → ((k : ℕ) → k < n → f k ≡ g k) → below n f ≡ below n g
+below-same zero f g h = refl
+below-same (suc n) f g h = rw (h n (omega arith), below-same n f g (λ k l. h k (omega arith)))
+
 -- a property of both is one of the picked
 pub pick-both {ℓ} : {A : Type ℓ} (P : A → Type 0) (t : Bool) (a b : A) → P a → P b → P (pick t a b)
 pick-both P true a b p q = p
 pick-both P false a b p q = q
+
+pub pick-same : {A : Type 0} (t : Bool) (x : A) → pick t x x ≡ x
+pick-same true x = refl
+pick-same false x = refl
+
+-- a bit is what its test says
+pub pick-bit : (x : ℕ) → x < 2 → pick (eqb x 1) 1 0 ≡ x
+pick-bit zero h = refl
+pick-bit (suc zero) h = refl
+pick-bit (suc (suc x)) h = absurd (omega arith)
 
 -- a test that is made of two, of every element
 module _ {A : Type 0} (f g : A → Bool) where

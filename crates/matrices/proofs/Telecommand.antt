@@ -44,7 +44,7 @@ unfolding rows tables prototypes circs flatMap blockCircs circsAt span blocksOf 
 odds-hold = tt
 
 -- what holds of a code's circulants, with its checks, its bits and its data counted in blocks, holds of its edges
-of-edges : (code : ℕ) → Known code → (P : List Edge → ℕ → ℕ → ℕ → Type 0)
+pub of-edges : (code : ℕ) → Known code → (P : List Edge → ℕ → ℕ → ℕ → Type 0)
     → (let b = circulantOf code in P (edgesOf b (circs code)) (checkBlocks code * b) (bitBlocks code * b) (dataBlocks code * b))
     → P (edges code) (checksIn code) (bitsIn code) (rowOf code .k)
 of-edges code h P holds =

@@ -1,0 +1,11 @@
+pub mod Scores
+pub mod Added
+pub mod Mends
+pub mod Pairs
+pub mod Turning
+pub mod Sparse
+pub mod Circles
+pub mod Tests
+pub mod Blocks
+pub mod Theorems
+pub mod Frames
