@@ -51,54 +51,26 @@ module _ (code : ℕ) (tc : TC code) (s : List ℕ) (bytes : Bytes s) (long : le
   abbrev known-code : Known code
   known-code = omega arith
 
-  whole : 8 * length s ≡ bitsIn code
+  pub whole : 8 * length s ≡ bitsIn code
   whole = omega (arith, roomy code known-code .sent, tc-sent code tc)
 
-  module _ (t output working : List ℕ) (limit : ℕ) (accepted : answerOf code t output working ≡ 0) where
-    module _ (k : ℕ) (f : ℕ → ℕ) (low : (v : ℕ) → f v < 2) (differ : (v : ℕ) → v < 8 * length s → bitAt t v ≡ (bitAt s v + f v) % 2)
-        (x : Mends (edges code) (bitsIn code) k f) where
-      abbrev word : List ℕ
-      word = span (bitAt s) 0 (bitsIn code)
+  -- the frame as a word
+  abbrev pub word : List ℕ
+  word = span (bitAt s) 0 (bitsIn code)
 
-      word-is : wordOf word ≡ bitAt s
-      word-is = received-word s (bitsIn code) (omega (arith, whole))
+  pub word-is : wordOf word ≡ bitAt s
+  word-is = received-word s (bitsIn code) (omega (arith, whole))
 
-      word-long : length word ≡ bitsIn code
-      word-long = span-length (bitAt s) 0 (bitsIn code)
+  pub word-long : length word ≡ bitsIn code
+  word-long = span-length (bitAt s) 0 (bitsIn code)
 
-      word-bits : Bits word
-      word-bits = span-bits (bitAt s) (bitAt-low s) (bitsIn code)
+  pub word-bits : Bits word
+  word-bits = span-bits (bitAt s) (bitAt-low s) (bitsIn code)
 
-      word-good : Meets code (wordOf word)
-      word-good = rw word-is good
+  pub word-good : Meets code (wordOf word)
+  word-good = rw word-is good
 
-      -- the word received is the frame with the errors added
-      sum : plus word (span f 0 (bitsIn code)) ≡ received code t
-      sum =
-          plus-is word (span f 0 (bitsIn code)) f (λ v l. span-get f 0 (bitsIn code) v (omega (arith, word-long)))
-          ∙ rw word-long (span-ext (λ v. (wordOf word v + f v) % 2) (bitAt t) 0 0 (bitsIn code) (λ v l.
-          ap (λ (g : ℕ → ℕ). (g (0 + v) + f (0 + v)) % 2) word-is ∙ sym (differ (0 + v) (omega (arith, whole)))))
-
-      -- the passes that restore the frame leave it
-      by-passes : (success : Bool) → passes (edges code) (checksIn code) limit (plus word (span f 0 (bitsIn code))) ≡ end success k word
-          → outcome code t output working limit ≡ leaves code success k s
-      unfolding decoded decodeWord
-      by-passes success ran =
-          let z = sym (no-bits (punctured code) (edges code) (rowOf code .«punctured_bits») limit (received code t) (tc-sent code tc)) in
-          let o : rowOf code .«output_len» ≡ length s = omega (arith, whole, roomy code known-code .whole) in
-          let e : k + 0 ≡ k = omega arith in
-          is-accepted code t output working limit accepted ∙ rw (z, ← sum, ran, o, word-is, pack-again s bytes, e)
-
-      by-mends : k < limit → outcome code t output working limit ≡ leaves code true k s
-      by-mends h =
-          by-passes true
-          (mended (edges code) (checksIn code) (bitsIn code) (edges-ranged code known-code) word word-bits word-long word-good k f low x limit h)
-
-      by-untested : limit ≡ k → outcome code t output working limit ≡ leaves code false k s
-      by-untested h =
-          by-passes false
-          (rw h (untested (edges code) (checksIn code) (bitsIn code) (edges-ranged code known-code) word word-bits word-long word-good k f low x))
-
+  module _ (t : List ℕ) where
     -- the bits in which t differs from the frame
     abbrev errors : List ℕ → ℕ → ℕ
     errors vs v = sumL vs (λ x. delta x v)
@@ -115,41 +87,72 @@ module _ (code : ℕ) (tc : TC code) (s : List ℕ) (bytes : Bytes s) (long : le
           ones-at (unequal (bitAt s) (bitAt t)) (unequal-low (bitAt s) (bitAt t)) (8 * length s) v h,
         )
 
-    -- one flipped bit
-    module _ (one : distance s t ≡ 1) where
-      one-error : (x : ℕ) × (x < bitsIn code) × ((v : ℕ) → v < 8 * length s → bitAt t v ≡ (bitAt s v + delta x v) % 2)
-      one-error = go (places s t) (length-places s t ∙ one) (places-below s t) (places-flip s t)
-        where
-          go : (vs : List ℕ) → length vs ≡ 1 → T (all (λ v. ltb v (8 * length s)) vs) → ((v : ℕ) → v < 8 * length s → bitAt t v ≡ (bitAt s v + errors vs v) % 2)
-              → (x : ℕ) × (x < bitsIn code) × ((v : ℕ) → v < 8 * length s → bitAt t v ≡ (bitAt s v + delta x v) % 2)
-          go [] len low flip = absurd (omega arith)
-          go (x ∷ []) len low flip = (x, low-at x [] low, λ v l. rw (add-zero (delta x v)) at (flip v l))
-          go (x ∷ y ∷ vs) len low flip = absurd (omega arith)
-
-      pub one-put-right : 2 ≤ limit → outcome code t output working limit ≡ leaves code true 1 s
-      one-put-right h =
-          let (x, hx, flip) = one-error in
-          by-mends 1 (delta x) (delta-low x) flip (clear-mends (edges code) (bitsIn code) x hx (all-clear code tc x hx)) h
-
-      pub one-seen-late : limit ≡ 1 → outcome code t output working limit ≡ leaves code false 1 s
-      one-seen-late h =
-          let (x, hx, flip) = one-error in
-          by-untested 1 (delta x) (delta-low x) flip (clear-mends (edges code) (bitsIn code) x hx (all-clear code tc x hx)) h
-
-    -- two flipped bits
-    pub two-put-right : distance s t ≡ 2 → 4 ≤ limit
-        → (x y k : ℕ) × (places s t ≡ x ∷ y ∷ []) × PairFlips (edges code) x y k × (outcome code t output working limit ≡ leaves code true k s)
-    two-put-right two h = go (places s t) refl (length-places s t ∙ two) (places-below s t) (places-flip s t) places-low
+    -- one of them
+    pub one-error : distance s t ≡ 1 → (x : ℕ) × (x < bitsIn code) × ((v : ℕ) → v < 8 * length s → bitAt t v ≡ (bitAt s v + delta x v) % 2)
+    one-error one = go (places s t) (length-places s t ∙ one) (places-below s t) (places-flip s t)
       where
-        go : (vs : List ℕ) → places s t ≡ vs → length vs ≡ 2 → T (all (λ v. ltb v (8 * length s)) vs)
-            → ((v : ℕ) → v < 8 * length s → bitAt t v ≡ (bitAt s v + errors vs v) % 2) → ((v : ℕ) → v < 8 * length s → errors vs v < 2)
-            → (x y k : ℕ) × (places s t ≡ x ∷ y ∷ []) × PairFlips (edges code) x y k × (outcome code t output working limit ≡ leaves code true k s)
-        go [] is len low flip once = absurd (omega arith)
-        go (x ∷ []) is len low flip once = absurd (omega arith)
-        go (x ∷ y ∷ []) is len low flip once =
-            let hx = low-at x (y ∷ []) low in
-            let hy = low-at y [] (both-right (ltb x (8 * length s)) (all (λ v. ltb v (8 * length s)) (y ∷ [])) low) in
-            let ne : x ≢ y = λ e. omega (arith, once x (omega (arith, whole)), delta-self x, ap (λ (u : ℕ). delta u x) e) in
-            let (k, flips, z) = pair-mends code tc x y hx hy ne in
-            (x, y, k, is, flips, by-mends k (pair x y) (pair-low x y ne) (λ v l. rw (add-zero (delta y v)) at (flip v l)) z (omega (arith, flips .most)))
-        go (x ∷ y ∷ u ∷ vs) is len low flip once = absurd (omega arith)
+        go : (vs : List ℕ) → length vs ≡ 1 → T (all (λ v. ltb v (8 * length s)) vs) → ((v : ℕ) → v < 8 * length s → bitAt t v ≡ (bitAt s v + errors vs v) % 2)
+            → (x : ℕ) × (x < bitsIn code) × ((v : ℕ) → v < 8 * length s → bitAt t v ≡ (bitAt s v + delta x v) % 2)
+        go [] len low flip = absurd (omega arith)
+        go (x ∷ []) len low flip = (x, low-at x [] low, λ v l. rw (add-zero (delta x v)) at (flip v l))
+        go (x ∷ y ∷ vs) len low flip = absurd (omega arith)
+
+    module _ (output working : List ℕ) (limit : ℕ) (accepted : answerOf code t output working ≡ 0) where
+      module _ (k : ℕ) (f : ℕ → ℕ) (low : (v : ℕ) → f v < 2) (differ : (v : ℕ) → v < 8 * length s → bitAt t v ≡ (bitAt s v + f v) % 2)
+          (x : Mends (edges code) (bitsIn code) k f) where
+        -- the word received is the frame with the errors added
+        sum : plus word (span f 0 (bitsIn code)) ≡ received code t
+        sum =
+            plus-is word (span f 0 (bitsIn code)) f (λ v l. span-get f 0 (bitsIn code) v (omega (arith, word-long)))
+            ∙ rw word-long (span-ext (λ v. (wordOf word v + f v) % 2) (bitAt t) 0 0 (bitsIn code) (λ v l.
+            ap (λ (g : ℕ → ℕ). (g (0 + v) + f (0 + v)) % 2) word-is ∙ sym (differ (0 + v) (omega (arith, whole)))))
+
+        -- the passes that restore the frame leave it
+        by-passes : (success : Bool) → passes (edges code) (checksIn code) limit (plus word (span f 0 (bitsIn code))) ≡ end success k word
+            → outcome code t output working limit ≡ leaves code success k s
+        unfolding decoded decodeWord
+        by-passes success ran =
+            let z = sym (no-bits (punctured code) (edges code) (rowOf code .«punctured_bits») limit (received code t) (tc-sent code tc)) in
+            let o : rowOf code .«output_len» ≡ length s = omega (arith, whole, roomy code known-code .whole) in
+            let e : k + 0 ≡ k = omega arith in
+            is-accepted code t output working limit accepted ∙ rw (z, ← sum, ran, o, word-is, pack-again s bytes, e)
+
+        by-mends : k < limit → outcome code t output working limit ≡ leaves code true k s
+        by-mends h =
+            by-passes true
+            (mended (edges code) (checksIn code) (bitsIn code) (edges-ranged code known-code) word word-bits word-long word-good k f low x limit h)
+
+        by-untested : limit ≡ k → outcome code t output working limit ≡ leaves code false k s
+        by-untested h =
+            by-passes false
+            (rw h (untested (edges code) (checksIn code) (bitsIn code) (edges-ranged code known-code) word word-bits word-long word-good k f low x))
+
+      -- one flipped bit
+      module _ (one : distance s t ≡ 1) where
+        pub one-put-right : 2 ≤ limit → outcome code t output working limit ≡ leaves code true 1 s
+        one-put-right h =
+            let (x, hx, flip) = one-error one in
+            by-mends 1 (delta x) (delta-low x) flip (clear-mends (edges code) (bitsIn code) x hx (all-clear code tc x hx)) h
+
+        pub one-seen-late : limit ≡ 1 → outcome code t output working limit ≡ leaves code false 1 s
+        one-seen-late h =
+            let (x, hx, flip) = one-error one in
+            by-untested 1 (delta x) (delta-low x) flip (clear-mends (edges code) (bitsIn code) x hx (all-clear code tc x hx)) h
+
+      -- two flipped bits
+      pub two-put-right : distance s t ≡ 2 → 4 ≤ limit
+          → (x y k : ℕ) × (places s t ≡ x ∷ y ∷ []) × PairFlips (edges code) x y k × (outcome code t output working limit ≡ leaves code true k s)
+      two-put-right two h = go (places s t) refl (length-places s t ∙ two) (places-below s t) (places-flip s t) places-low
+        where
+          go : (vs : List ℕ) → places s t ≡ vs → length vs ≡ 2 → T (all (λ v. ltb v (8 * length s)) vs)
+              → ((v : ℕ) → v < 8 * length s → bitAt t v ≡ (bitAt s v + errors vs v) % 2) → ((v : ℕ) → v < 8 * length s → errors vs v < 2)
+              → (x y k : ℕ) × (places s t ≡ x ∷ y ∷ []) × PairFlips (edges code) x y k × (outcome code t output working limit ≡ leaves code true k s)
+          go [] is len low flip once = absurd (omega arith)
+          go (x ∷ []) is len low flip once = absurd (omega arith)
+          go (x ∷ y ∷ []) is len low flip once =
+              let hx = low-at x (y ∷ []) low in
+              let hy = low-at y [] (both-right (ltb x (8 * length s)) (all (λ v. ltb v (8 * length s)) (y ∷ [])) low) in
+              let ne : x ≢ y = λ e. omega (arith, once x (omega (arith, whole)), delta-self x, ap (λ (u : ℕ). delta u x) e) in
+              let (k, flips, z) = pair-mends code tc x y hx hy ne in
+              (x, y, k, is, flips, by-mends k (pair x y) (pair-low x y ne) (λ v l. rw (add-zero (delta y v)) at (flip v l)) z (omega (arith, flips .most)))
+          go (x ∷ y ∷ u ∷ vs) is len low flip once = absurd (omega arith)
