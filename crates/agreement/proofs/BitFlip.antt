@@ -6,7 +6,7 @@ use Prim.Native.Nat.{ℕ}
 use native.Mathlib.Nat.{add-zero}
 use native.Mathlib.Decide.{ℕ-discrete}
 use native.Mathlib.Omega.{arith}
-use borrow.Author.Tests.{eq-eqb, ne-eqb}
+use borrow.Author.Tests.{ne-eqb}
 use lib.ListN.{length}
 use Rattle.maths.specs.Bytes.{Bytes}
 use Rattle.maths.proofs.Bytes.{length-pack, bytes-pack}
@@ -17,7 +17,7 @@ use Rattle.report.specs.Report.{refusal, ending}
 use Rattle.bit_flip.specs.Flip.{flipped, pass, passes}
 use Rattle.bit_flip.specs.Erasures.{erasurePasses}
 use Rattle.bit_flip.specs.Outcome.{Outcome, left, decodeWord, received, punctured, decoded, outcome}
-use Rattle.bit_flip.proofs.Theorems.{success-meets, clean}
+use Rattle.bit_flip.proofs.Theorems.{is-accepted, success-meets, clean}
 use Rattle.agreement.specs.Demands.{told, DecodesByTable, SuccessMeets, FrameReturns, CountsPasses, DecodesAs}
 use Rattle.agreement.specs.Ours.{Hard, bitFlip, flippedIn, bitFlipping}
 use Rattle.agreement.proofs.Sender.{sent-bytes, sent-meets}
@@ -26,8 +26,7 @@ use Rattle.agreement.proofs.Counting.{run-counted}
 -- a call is accepted, or refused by a number
 module _ (code : ℕ) (b : Hard) (limit : ℕ) where
   accepted-is : bitFlipping .answer code b ≡ 0 → outcome code (b .input) (b .output) (b .working) limit ≡ decoded code (b .input) limit
-  unfolding outcome
-  accepted-is h = rw (eq-eqb (bitFlipping .answer code b) 0 h)
+  accepted-is h = is-accepted code (b .input) (b .output) (b .working) limit h
 
   refused-is : (bitFlipping .answer code b ≡ 0 → ⊥)
       → outcome code (b .input) (b .output) (b .working) limit ≡ left (refusal (bitFlipping .answer code b)) (b .output) (b .working)

@@ -1,17 +1,18 @@
 -- Sender and receiver together, over the bytes in their buffers: demand 3. `Sent` and `Answered` hold the promises of the functions. Assumes nothing.
-use mathlib.Core.Bool.{true}
-use mathlib.Core.List.{List}
+use mathlib.Core.Bool.{Bool, true, false}
+use mathlib.Core.List.{List, [], _∷_}
 use mathlib.Core.Logic.{_⊎_}
-use mathlib.Core.Path.{_≡_, sym, ap, _∙_}
+use mathlib.Core.Path.{_≡_, sym, ap, _∙_, subst}
 use Prim.Native.Nat.{ℕ, _+_, _/_, _%_, _≤_, _<_}
 use native.Mathlib.Omega.{arith}
 use lib.IntN.{ℤ, pos, negsuc}
 use lib.ListN.{length}
 use Rattle.maths.specs.Bits.{bitAt}
 use Rattle.maths.specs.Bytes.{Bytes}
-use Rattle.maths.specs.Distance.{distance}
+use Rattle.maths.specs.Distance.{distance, places}
 use Rattle.maths.proofs.Triangle.{distance-over}
 use Rattle.codes.specs.Codes.{TC, rowOf}
+use Rattle.codes.specs.Edges.{edges}
 use Rattle.codes.specs.Equations.{Meets}
 use Rattle.codes.proofs.Codes.{lengths}
 use Rattle.matrices.proofs.Sizes.{tc-bits}
@@ -19,17 +20,21 @@ use Rattle.low_weights.proofs.Distances.{near-same, wrong-noticed}
 use Rattle.report.specs.declared.Report.{Report}
 use Rattle.report.specs.Report.{ending}
 use Rattle.bit_flip.specs.Outcome as flip
+use Rattle.two_flips.specs.Flips.{PairFlips}
 use Rattle.min_sum.specs.Confidence.{i8}
 use Rattle.min_sum.specs.Hard.{toHard, toLlrs}
 use Rattle.min_sum.specs.Outcomes.{Outcome, left, decodeOutcome, Written, written, toLlrsOutcome}
 use Rattle.min_sum.proofs.Conversions.{llrs-hard-i8}
 use Rattle.min_sum.proofs.Success.{steady}
+use Rattle.soft_flip.specs.OneSize.{OneSize}
+use Rattle.soft_flip.proofs.Frames.{llrs-one-size}
 use Rattle.agreement.specs.Parties.{Sent, Answered, by-bit-flipping, by-min-sum}
 use Rattle.agreement.specs.Demands.{Told, told}
-use Rattle.agreement.specs.Ours.{Hard, Soft}
+use Rattle.agreement.specs.Ours.{Hard, bitFlip, bitFlipping, Soft, minSum, minSumming}
 use Rattle.agreement.proofs.Sender as sender
 use Rattle.agreement.proofs.BitFlip.{bit-flip-table, bit-flip-meets, bit-flip-returns, bit-flip-accepted, bit-flip-bytes, bit-flip-length}
 use Rattle.agreement.proofs.MinSum.{min-sum-table, min-sum-meets, min-sum-returns, min-sum-accepted, min-sum-bytes, min-sum-length}
+use Rattle.agreement.proofs.FewFlips.{flip-one, flip-late, flip-two, soft-one, soft-late}
 
 -- ---- what `hard_to_llrs_i8` leaves
 llrs-of : (code : ℕ) (frame : List ℕ) (before : List ℤ) {answer : ℕ} {llrs : List ℤ} → written answer llrs ≡ toLlrsOutcome (negsuc 0) (pos 1) code frame before → answer ≡ 0
@@ -59,8 +64,8 @@ succeeded {code} (by-min-sum llrs working working′ old signs signs′ limit e)
     rw (ap (λ (x : Outcome ℤ). x .output) e)
     (record { meets = min-sum-meets i8 code b limit y; bytes = min-sum-bytes i8 code b limit h; long = min-sum-length i8 code b limit h })
 
-back : {report : Report} {output frame : List ℕ} → told report output ≡ told (ending true 0) frame
-    → (report .success ≡ true) × (report .iters ≡ 0) × (output ≡ frame)
+back : {report : Report} {output frame : List ℕ} {success : Bool} {k : ℕ} → told report output ≡ told (ending success k) frame
+    → (report .success ≡ success) × (report .iters ≡ k) × (output ≡ frame)
 back e = (ap (λ (x : Told). x .report .success) e, ap (λ (x : Told). x .report .iters) e, ap (λ (x : Told). x .output) e)
 
 -- ---- whatever a decoder calls a success meets every parity equation, of all codes
@@ -99,23 +104,77 @@ module _ {code : ℕ} (tc : TC code) {frame : List ℕ} (sent : Sent code frame)
       → distance frame received ≤ 1 → distance received output ≤ 1 → Answered code report output → report .success ≡ true → output ≡ frame
   one-corrected received long one near = near-success received long (omega arith)
 
-  -- unchanged, with a limit of at least 1, it comes back the same with success at iteration 0: by bit flipping,
+  -- ---- a call of bit flipping that is accepted, and what it reads
+  module _ (received old working : List ℕ) (limit : ℕ) {report : Report} {output working′ : List ℕ}
+      (e : flip.left report output working′ ≡ flip.outcome code received old working limit) (a : report .answer ≡ 0) where
+    abbrev lent : Hard
+    lent = record { input = received; output = old; working = working }
+
+    accepted : bitFlipping .answer code lent ≡ 0
+    accepted = sym (bit-flip-table code lent limit) ∙ sym (ap (λ (x : flip.Outcome). x .report .answer) e) ∙ a
+
+    left-told : told report output ≡ bitFlip code lent limit
+    left-told = ap (λ (x : flip.Outcome). told (x .report) (x .output)) e
+
+    -- with exactly one bit flipped and a limit of 2 or more the frame comes back with (true, 1); with a limit of 1 it is the output too, but with (false, 1)
+    pub one-put-right : distance frame received ≡ 1 → 2 ≤ limit → (report .success ≡ true) × (report .iters ≡ 1) × (output ≡ frame)
+    one-put-right one k = back (left-told ∙ flip-one tc sent lent limit accepted one k)
+
+    pub one-seen-late : distance frame received ≡ 1 → limit ≡ 1 → (report .success ≡ false) × (report .iters ≡ 1) × (output ≡ frame)
+    one-seen-late one k = back (left-told ∙ flip-late tc sent lent limit accepted one k)
+
+    -- with two flipped and a limit of 4 or more, with success at iteration 1, 2 or 3, by the edges of the two bits
+    pub two-put-right : distance frame received ≡ 2 → 4 ≤ limit
+        → (x y : ℕ) × (places frame received ≡ x ∷ y ∷ []) × PairFlips (edges code) x y (report .iters) × (report .success ≡ true) × (output ≡ frame)
+    two-put-right two k =
+        let (x, y, n, is, taken, r) = flip-two tc sent lent limit accepted two k in
+        let (success, iters, out) = back (left-told ∙ r) in
+        (x, y, is, subst (PairFlips (edges code) x y) (sym iters) taken, success, out)
+
+  -- unchanged, with a limit of at least 1, it comes back the same with success at iteration 0
   pub unchanged-bit-flipping : (old working : List ℕ) (limit : ℕ) → 1 ≤ limit → {report : Report} {output working′ : List ℕ}
       → flip.left report output working′ ≡ flip.outcome code frame old working limit → report .answer ≡ 0
       → (report .success ≡ true) × (report .iters ≡ 0) × (output ≡ frame)
-  unchanged-bit-flipping old working limit k {report} {output} e a =
-      let b : Hard = record { input = frame; output = old; working = working } in
-      let accepted = sym (bit-flip-table code b limit) ∙ sym (ap (λ (x : flip.Outcome). x .report .answer) e) ∙ a in
-      back (ap (λ (x : flip.Outcome). told (x .report) (x .output)) e ∙ bit-flip-returns code b limit tc sent accepted k)
+  unchanged-bit-flipping old working limit k e a =
+      back (left-told frame old working limit e a ∙ bit-flip-returns code (lent frame old working limit e a) limit tc sent (accepted frame old working limit e a) k)
 
-  -- and by min-sum fed through `hard_to_llrs_i8`
+  -- ---- a call of min-sum that is accepted, fed through `hard_to_llrs_i8`
+  module _ (received : List ℕ) (bytes : Bytes received) (answer : ℕ) (before llrs : List ℤ)
+      (w : written answer llrs ≡ toLlrsOutcome (negsuc 0) (pos 1) code received before) (z : answer ≡ 0)
+      (old : List ℕ) (working : List ℤ) (signs : List ℕ) (limit : ℕ) {report : Report} {output : List ℕ} {working′ : List ℤ} {signs′ : List ℕ}
+      (e : left report output working′ signs′ ≡ decodeOutcome i8 code llrs old working signs limit) (a : report .answer ≡ 0) where
+    abbrev soft-lent : Soft ℤ
+    soft-lent = record { llrs = llrs; output = old; working = working; signs = signs }
+
+    soft-accepted : minSumming i8 .answer code soft-lent ≡ 0
+    soft-accepted = sym (min-sum-table i8 code soft-lent limit) ∙ sym (ap (λ (x : Outcome ℤ). x .report .answer) e) ∙ a
+
+    soft-told : told report output ≡ minSum i8 code soft-lent limit
+    soft-told = ap (λ (x : Outcome ℤ). told (x .report) (x .output)) e
+
+    hard-same : toHard i8 llrs ≡ received
+    hard-same = rw (llrs-of code received before w z) (llrs-hard-i8 received bytes)
+
+    one-size : OneSize 0 llrs
+    one-size = rw (llrs-of code received before w z) (llrs-one-size 0 received)
+
+    -- one flipped bit is put right too; with a limit of 1 the output is what was received, with (false, 1)
+    pub one-put-right-min-sum : distance frame received ≡ 1 → 2 ≤ limit → (report .success ≡ true) × (report .iters ≡ 1) × (output ≡ frame)
+    one-put-right-min-sum one k = back (soft-told ∙ soft-one tc sent 127 0 (omega arith) soft-lent one-size soft-accepted (rw hard-same one) limit k)
+
+    pub one-seen-late-min-sum : distance frame received ≡ 1 → limit ≡ 1 → (report .success ≡ false) × (report .iters ≡ 1) × (output ≡ received)
+    one-seen-late-min-sum one k =
+        back (soft-told ∙ rw (k, ← hard-same) (soft-late tc sent 127 0 (omega arith) soft-lent one-size soft-accepted (rw hard-same one)))
+
+  -- and so does the frame unchanged
   pub unchanged-min-sum : (answer : ℕ) (before llrs : List ℤ) → written answer llrs ≡ toLlrsOutcome (negsuc 0) (pos 1) code frame before → answer ≡ 0
       → (old : List ℕ) (working : List ℤ) (signs : List ℕ) (limit : ℕ) → 1 ≤ limit
       → {report : Report} {output : List ℕ} {working′ : List ℤ} {signs′ : List ℕ}
       → left report output working′ signs′ ≡ decodeOutcome i8 code llrs old working signs limit → report .answer ≡ 0
       → (report .success ≡ true) × (report .iters ≡ 0) × (output ≡ frame)
-  unchanged-min-sum answer before llrs w z old working signs limit k {report} {output} e a =
-      let b : Soft ℤ = record { llrs = llrs; output = old; working = working; signs = signs } in
-      let same : toHard i8 llrs ≡ frame = rw (llrs-of code frame before w z) (llrs-hard-i8 frame (sender.sent-bytes sent)) in
-      let accepted = sym (min-sum-table i8 code b limit) ∙ sym (ap (λ (x : Outcome ℤ). x .report .answer) e) ∙ a in
-      back (ap (λ (x : Outcome ℤ). told (x .report) (x .output)) e ∙ min-sum-returns i8 (steady 127) code b limit tc (rw same sent) accepted k ∙ rw same)
+  unchanged-min-sum answer before llrs w z old working signs limit k e a =
+      let bytes = sender.sent-bytes sent in
+      let same = hard-same frame bytes answer before llrs w z old working signs limit e a in
+      let b = soft-lent frame bytes answer before llrs w z old working signs limit e a in
+      let h = soft-accepted frame bytes answer before llrs w z old working signs limit e a in
+      back (soft-told frame bytes answer before llrs w z old working signs limit e a ∙ min-sum-returns i8 (steady 127) code b limit tc (rw same sent) h k ∙ rw same)

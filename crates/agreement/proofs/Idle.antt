@@ -8,6 +8,7 @@ use lib.IntN.{pos, negsuc}
 use lib.ListN.{length, getD}
 use Rattle.maths.specs.Bits.{bitAt}
 use Rattle.maths.specs.Bytes.{Bytes}
+use Rattle.maths.specs.Distance.{distance}
 use Rattle.codes.specs.Codes.{rows}
 use Rattle.matrices.specs.Frames.{frameOf, encodedBytes}
 use Rattle.matrices.proofs.Edges.{meets-same}
@@ -18,12 +19,14 @@ use Rattle.min_sum.specs.Soft.{below0}
 use Rattle.min_sum.proofs.Conversions.{llrs-hard}
 use Rattle.min_sum.proofs.Marginals.{replicate-at}
 use Rattle.min_sum.proofs.Success.{steady}
+use Rattle.soft_flip.proofs.Frames.{llrs-one-size}
 use Rattle.agreement.specs.Parties.{Sent, by-copy-encode}
-use Rattle.agreement.specs.Demands.{Sending, Told, told, Decoder, Receiving, FrameReturns, CountsPasses, DecodesAs}
-use Rattle.agreement.specs.Ours.{encoding, copyEncoding, bitFlip, bitFlipping, minSum, minSumming}
+use Rattle.agreement.specs.Demands.{Sending, Told, told, Decoder, Receiving, FrameReturns, CountsPasses, DecodesAs, FewFlipsReturn}
+use Rattle.agreement.specs.Ours.{encoding, copyEncoding, bitFlip, bitFlipping, anyBits, minSum, minSumming, oneSized}
 use Rattle.agreement.specs.Examples.{zeros}
-use Rattle.agreement.specs.Idle.{NoIdleEncoder, rests, fails, decodesAlike, copies, worksOnce, NoIdleDecoder}
+use Rattle.agreement.specs.Idle.{NoIdleEncoder, rests, fails, decodesAlike, copies, worksOnce, renumbered, NoIdleDecoder, NoIdleCorrector}
 use Rattle.agreement.proofs.Sender.{sent-bytes, sent-length, sent-meets}
+use Rattle.agreement.proofs.Zeros.{zero-frame}
 use Rattle.agreement.proofs.Counting.{counted-one}
 use Rattle.agreement.proofs.BitFlip.{bit-flip-returns, bit-flip-counts, bit-flip-steps}
 use Rattle.agreement.proofs.MinSum.{min-sum-returns, min-sum-counts, min-sum-steps}
@@ -47,6 +50,18 @@ frame-sent x h = by-copy-encode 0 (message x) spoilt (bytes-then x 7 h) refl ref
 frames-apart : frame 0 ≡ frame 0xff → ⊥
 unfolding encodedBytes
 frames-apart e = let z : _≡_ {A = ℕ} 0 255 = ap (λ (s : List ℕ). getD s 0 0) e in omega arith
+
+-- the first frame, and with its first bit flipped
+frame-zeros : frame 0 ≡ zeros 16
+unfolding rows
+frame-zeros = zero-frame 0 (omega arith)
+
+abbrev flipped : List ℕ
+flipped = 0x80 ∷ zeros 15
+
+one-flipped : distance (frame 0) flipped ≡ 1
+unfolding distance
+one-flipped = rw frame-zeros
 
 -- ---- encoders: calls that are accepted, and bring such a message
 record Sends {B : Type 0} (calls : Sending B) : Type 0 where
@@ -148,6 +163,31 @@ module _ {B : Type 0} {calls : Receiving B} {ours : Decoder B} (c : Receives cal
             omega arith;
       }
 
+-- ---- one flipped bit, in calls that bring their bits plain
+module _ {B : Type 0} {calls : Receiving B} {ours : Decoder B} (c : Receives calls ours) (plain : B → Type 0) (is-plain : (s : List ℕ) → plain (c .lend s)) where
+  put-right : (d : Decoder B) → FewFlipsReturn calls plain 1 d → d 0 (c .lend flipped) 2 ≡ told (ending true 1) (frame 0)
+  put-right d f =
+      let e : distance (frame 0) (calls .word (c .lend flipped)) ≡ 1 = rw (c .brings flipped (bytes-then 0x80 15 (omega arith))) one-flipped in
+      f .one 0 (c .lend flipped) 2 (frame 0) (omega arith) (frame-sent 0 (omega arith)) (c .accepted flipped refl) (is-plain flipped) e (omega arith)
+
+  -- and so the output is the frame
+  put-out : (d : Decoder B) (s : List ℕ) → FewFlipsReturn calls plain 1 d → d 0 (c .lend flipped) 2 .output ≡ s → getD s 0 0 ≡ 0
+  put-out d s f e = ap (λ (x : List ℕ). getD x 0 0) (sym e ∙ ap (λ (x : Told). x .output) (put-right d f) ∙ frame-zeros)
+
+  no-idle-corrector : NoIdleCorrector calls plain
+  no-idle-corrector =
+      record {
+        failing = λ d f. let z : _≡_ {A = ℕ} 0 1 = cc (ap (λ (x : Told). x .report .success) (put-right (fails d) f)) in omega arith;
+        copying = λ says f. omega (arith, put-out (copies calls says) flipped f (c .brings flipped (bytes-then 0x80 15 (omega arith))));
+        resting = λ says f. omega (arith, put-out (rests calls says) spoilt f (c .before flipped));
+        made-up = λ number d f code b limit s tc sent h p e k. ap (λ (x : Told). x .report .iters) (f .one code b limit s tc sent h p e k);
+        one-number = λ n d f.
+            let same : Decoder B = renumbered (λ code b limit. n) d in
+            let none : n ≡ 0 = ap (λ (x : Told). x .report .iters) (returned c same (f .unchanged) 0 (omega arith)) in
+            let one : n ≡ 1 = ap (λ (x : Told). x .report .iters) (put-right same f) in
+            omega arith;
+      }
+
 -- of bit flipping and of min-sum
 flip-receives : Receives bitFlipping bitFlip
 unfolding rows
@@ -184,3 +224,10 @@ bit-flip-no-idle = no-idle-decoder flip-receives
 
 pub min-sum-no-idle : NoIdleDecoder (minSumming i8)
 min-sum-no-idle = no-idle-decoder soft-receives
+
+pub bit-flip-no-idle-corrector : NoIdleCorrector bitFlipping anyBits
+bit-flip-no-idle-corrector = no-idle-corrector flip-receives anyBits (λ s. tt)
+
+pub min-sum-no-idle-corrector : NoIdleCorrector (minSumming i8) (oneSized 127)
+unfolding soft-receives
+min-sum-no-idle-corrector = no-idle-corrector soft-receives (oneSized 127) (λ s. (99, omega arith, llrs-one-size 99 s))

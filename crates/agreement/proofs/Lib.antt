@@ -3,6 +3,7 @@ pub mod Sender
 pub mod Counting
 pub mod MinSum
 pub mod BitFlip
+pub mod FewFlips
 pub mod Demand3
 pub mod Zeros
 pub mod Examples

@@ -4,6 +4,7 @@ use mathlib.Core.List.{List}
 use mathlib.Core.Path.{_≡_}
 use Prim.Native.Nat.{ℕ, _≤_, _<_}
 use Rattle.maths.specs.Bits.{bitAt}
+use Rattle.maths.specs.Distance.{distance}
 use Rattle.codes.specs.Codes.{TC, rowOf}
 use Rattle.codes.specs.Equations.{Meets}
 use Rattle.matrices.specs.Frames.{frameOf}
@@ -86,3 +87,14 @@ module _ {B : Type 0} (calls : Receiving B) (d : Decoder B) where
   -- demand 2: the report and the output are those of document 01's steps, for each limit
   abbrev pub DecodesAs : Type 0
   DecodesAs = (code : ℕ) (b : B) (limit : ℕ) → calls .answer code b ≡ 0 → d code b limit ≡ calls .steps code b limit
+
+-- request T-11, and beyond it what the tables give: a frame of a TC code that comes with few bits flipped, and a limit that is large enough, comes
+-- back. Of the calls that bring their bits `plain`; `most` bits are flipped at most, one or two
+pub record FewFlipsReturn {B : Type 0} (calls : Receiving B) (plain : B → Type 0) (most : ℕ) (d : Decoder B) : Type 0 where
+  pub unchanged : FrameReturns calls d
+  -- "the limit is 2 or more .. return the sent frame with (true, 1)"
+  pub one : (code : ℕ) (b : B) (limit : ℕ) (frame : List ℕ) → TC code → Sent code frame → calls .answer code b ≡ 0 → plain b
+      → distance frame (calls .word b) ≡ 1 → 2 ≤ limit → d code b limit ≡ told (ending true 1) frame
+  -- with two: a limit of 4 or more, at iteration 1, 2 or 3
+  pub two : 2 ≤ most → (code : ℕ) (b : B) (limit : ℕ) (frame : List ℕ) → TC code → Sent code frame → calls .answer code b ≡ 0 → plain b
+      → distance frame (calls .word b) ≡ 2 → 4 ≤ limit → (k : ℕ) × (1 ≤ k) × (k ≤ 3) × (d code b limit ≡ told (ending true k) frame)

@@ -6,7 +6,8 @@ use Prim.Native.Nat.{ℕ, min, _≤_}
 use Rattle.maths.specs.Tests.{pick}
 use Rattle.maths.specs.Lists.{fold}
 use Rattle.maths.specs.Budget.{Turn, stop, go, run}
-use Rattle.codes.specs.Codes.{rowOf, checksIn}
+use Rattle.maths.specs.Distance.{distance}
+use Rattle.codes.specs.Codes.{TC, rowOf, checksIn}
 use Rattle.codes.specs.Edges.{Edge, edges}
 use Rattle.report.specs.declared.Report.{Report}
 use Rattle.report.specs.Report.{refusal, ending}
@@ -14,7 +15,8 @@ use Rattle.encoder.specs.Outcomes.{Encoded, encoded}
 use Rattle.min_sum.specs.Confidence.{Confidence}
 use Rattle.min_sum.specs.MinSum.{Messages, numbered, addMessage, takeMessage, restarted, renewed, start, met}
 use Rattle.min_sum.specs.Hard.{toHard}
-use Rattle.agreement.specs.Demands.{Encoder, Sending, EncodesByTable, EncodesData, FrameMeets, Told, told, Decoder, Receiving, DecodesByTable, SuccessMeets, FrameReturns, CountsPasses, DecodesAs}
+use Rattle.agreement.specs.Parties.{Sent}
+use Rattle.agreement.specs.Demands.{Encoder, Sending, EncodesByTable, EncodesData, FrameMeets, Told, told, Decoder, Receiving, DecodesByTable, SuccessMeets, FrameReturns, CountsPasses, DecodesAs, FewFlipsReturn}
 use Rattle.agreement.specs.Ours.{Soft}
 
 -- what a decoder says, by code, the buffers that it is lent and the limit
@@ -100,6 +102,18 @@ pub record NoIdleDecoder {B : Type 0} (calls : Receiving B) : Type 0 where
   pub one-number : (d : Decoder B) (n : ℕ) → CountsPasses calls (renumbered (λ code b limit. n) d) → ⊥
   -- "Demand 3's last two sentences alone suit a decoder that never succeeds; demand 2 rules that out."
   pub never-succeeding : (d : Decoder B) → DecodesAs calls (fails d) → ⊥
+
+-- ---- and none puts one flipped bit right
+pub record NoIdleCorrector {B : Type 0} (calls : Receiving B) (plain : B → Type 0) : Type 0 where
+  -- never succeeding
+  pub failing : (d : Decoder B) → FewFlipsReturn calls plain 1 (fails d) → ⊥
+  -- copying, and doing nothing, whatever they say
+  pub copying : (says : Reports B) → FewFlipsReturn calls plain 1 (copies calls says) → ⊥
+  pub resting : (says : Reports B) → FewFlipsReturn calls plain 1 (rests calls says) → ⊥
+  -- a made-up number: with one bit flipped it is 1, so no one number will do
+  pub made-up : (number : ℕ → B → ℕ → ℕ) (d : Decoder B) → FewFlipsReturn calls plain 1 (renumbered number d) → (code : ℕ) (b : B) (limit : ℕ) (frame : List ℕ)
+      → TC code → Sent code frame → calls .answer code b ≡ 0 → plain b → distance frame (calls .word b) ≡ 1 → 2 ≤ limit → number code b limit ≡ 1
+  pub one-number : (n : ℕ) (d : Decoder B) → FewFlipsReturn calls plain 1 (renumbered (λ code b limit. n) d) → ⊥
 
 -- ---- "Adding messages in another order: saturating sums depend on it.": min-sum that adds them from the last edge to the first
 module _ {C : Type 0} (o : Confidence C) (es : List Edge) (checks punctured : ℕ) (llrs : List C) where

@@ -1,6 +1,9 @@
 -- The library's encoders and decoders, by their promises, as the demands take them. Assumes nothing.
+use mathlib.Core.Bool.{true}
 use mathlib.Core.List.{List}
-use Prim.Native.Nat.{ℕ, _/_}
+use Prim.Native.Nat.{ℕ, suc, _/_, _≤_}
+use lib.Dec.{T}
+use lib.IntN.{ℤ}
 use lib.ListN.{length, take}
 use Rattle.maths.specs.Budget.{iterated}
 use Rattle.codes.specs.Answers.{firstOf}
@@ -17,6 +20,7 @@ use Rattle.min_sum.specs.MinSum.{hardBits, start, pass}
 use Rattle.min_sum.specs.MinSum as soft
 use Rattle.min_sum.specs.Hard.{toHard}
 use Rattle.min_sum.specs.Outcomes.{decodeAnswer, decodeOutcome}
+use Rattle.soft_flip.specs.OneSize.{OneSize}
 use Rattle.agreement.specs.Demands.{Encoder, Sending, told, Decoder, Receiving}
 
 -- ---- `encode` is lent the codeword, whose first k/8 bytes are the message
@@ -73,6 +77,10 @@ bitFlipping =
       steps = λ code b limit. let x = decoded code (b .input) limit in told (x .report) (x .output);
     }
 
+-- every bit is as good as any other
+abbrev pub anyBits : Hard → Type 0
+anyBits b = T true
+
 -- ---- min-sum is lent the LLRs, whose hard bits are the word, the output and two working buffers
 pub record Soft (C : Type 0) : Type 0 where
   pub llrs : List C
@@ -103,3 +111,7 @@ module _ {C : Type 0} (o : Confidence C) where
         hand = λ code b limit. marginalsIn code (b .llrs);
         steps = λ code b limit. let e = soft.decoded o code (b .llrs) limit in told (ending (e .success) (e .turns)) (toHard o (e .state .marginals));
       }
+
+-- the LLRs are all of one size, up to the largest number
+abbrev pub oneSized : ℕ → Soft ℤ → Type 0
+oneSized top b = (k : ℕ) × (suc k ≤ top) × OneSize k (b .llrs)
