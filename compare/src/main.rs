@@ -1,4 +1,8 @@
 //! Compares every answer, count and output byte of the two libraries, or times them: compare [CASES] | compare few | compare time
+mod both;
+mod flips;
+
+use both::*;
 use compare::archive::*;
 use compare::*;
 use labrador_ldpc::LDPCCode;
@@ -83,18 +87,10 @@ fn compare_encode(i: usize, code: LDPCCode, random: usize, dice: &mut Dice) -> u
 
 fn compare_bf(i: usize, code: LDPCCode, cases: usize, dice: &mut Dice) -> Tally {
     let mut tally = Tally::default();
-    let (mut theirs, mut ours) = (vec![0; code.output_len()], vec![0; code.output_len()]);
-    let (mut w, mut v) = (vec![0; code.decode_bf_working_len()], vec![0; code.decode_bf_working_len()]);
     for _ in 0..cases {
         let input = received(code, dice);
         let most = limit(dice);
-        dice.fill(&mut ours);
-        dice.fill(&mut v);
-        let (success, iters) = code.decode_bf(&input, &mut theirs, &mut w, most);
-        let report = decode_bf(i, &input, &mut ours, &mut v, most);
-        let want = Report { answer: 0, success: success as u8, iters };
-        same("decode_bf", code, &(&input, most), (report, &ours), (want, &theirs));
-        same("decode_bf's working", code, &(&input, most), v.iter().all(|&x| x == 0), true);
+        let (success, iters, _) = decode_bf_both(i, code, &input, most, dice);
         tally.add(success, iters);
     }
     tally
@@ -106,21 +102,11 @@ fn zero_word(code: LDPCCode, dice: &mut Dice) -> Vec<i8> {
 
 fn compare_ms(i: usize, code: LDPCCode, cases: usize, dice: &mut Dice) -> Tally {
     let mut tally = Tally::default();
-    let (mut theirs, mut ours) = (vec![0; code.output_len()], vec![0; code.output_len()]);
-    let (mut w, mut v) = (vec![0i8; code.decode_ms_working_len()], vec![0i8; code.decode_ms_working_len()]);
-    let (mut s, mut t) = (vec![0; code.decode_ms_working_u8_len()], vec![0; code.decode_ms_working_u8_len()]);
     for _ in 0..cases {
         // the zero word at any strengths is a TM code's way to a success at 0
         let input = if dice.below(6) == 0 { zero_word(code, dice) } else { confidences(code, dice) };
         let most = limit(dice);
-        dice.fill(&mut ours);
-        dice.fill(&mut t);
-        v.iter_mut().for_each(|x| *x = (dice.next() >> 40) as i8);
-        let (success, iters) = code.decode_ms(&input, &mut theirs, &mut w, &mut s, most);
-        let report = decode_ms(i, &input, &mut ours, &mut v, &mut t, most);
-        let want = Report { answer: 0, success: success as u8, iters };
-        same("decode_ms", code, &(&input, most), (report, &ours), (want, &theirs));
-        same("decode_ms's working", code, &(&input, most), v.iter().all(|&x| x == 0) && t.iter().all(|&x| x == 0), true);
+        let (success, iters, _) = decode_ms_both(i, code, &input, most, dice);
         tally.add(success, iters);
     }
     tally
@@ -287,7 +273,8 @@ fn compare_all(wanted: usize, least: usize) {
     }
     let refused = compare_refusals();
     println!("| all, and unknown codes | every operation at wrong lengths | {refused} | | | |");
-    println!("\n{} cases, no difference, {} s", total + refused, start.elapsed().as_secs());
+    let flipped = flips::compare_flips(2 * least);
+    println!("\n{} cases, no difference, {} s", total + refused + flipped, start.elapsed().as_secs());
 }
 
 fn sink<T>(_: T) {}

@@ -29,7 +29,7 @@ use Rattle.two_flips.proofs.Pairs.{pair, pair-swap, own, both-mend, fir
 use Rattle.two_flips.proofs.Turning.{rot, Back, rot-back, back-one, back-two, delta-rot, score-rot, mends-rot}
 use Rattle.two_flips.proofs.Sparse.{tell, tell-occurs, all-occurs, near-score, mends, mends-sound}
 use Rattle.two_flips.proofs.Circles.{checksBy, bits-count, check-count}
-use Rattle.two_flips.proofs.Tests.{around, beside, beside-other, pair-tested, bitTest, blocksTest}
+use Rattle.two_flips.proofs.Tests.{lightFlips, around, beside, beside-other, pair-tested, bitTest, blocksTest}
 
 -- two bits that differ
 two-once : (x y : ℕ) → y ≢ x → Once (x ∷ y ∷ [])
@@ -82,7 +82,7 @@ module _ (b mb nb : ℕ) (pos : 0 < b) (ks : List Circ) (ranged : Ranged (mb * b
             omega (arith, share-tell (q * b) u, beside-other (bitsOn b ks) (checksBy b ks) (nb * b) (q * b) (nearby (q * b)) light u ne (first-beside u h) .0)
 
     first-pair : (u : ℕ) → u ≢ q * b → 0 < share (q * b) u → share (q * b) (q * b) ≡ 3 → share u u ≡ 3
-        → T (mends (bitsOn b ks) (checksBy b ks) (nb * b) 3 (q * b ∷ u ∷ []))
+        → T (mends (bitsOn b ks) (checksBy b ks) (nb * b) lightFlips (q * b ∷ u ∷ []))
     first-pair u ne some three three′ =
         pair-tested (bitsOn b ks) (checksBy b ks) (nb * b) (q * b) light u
         (beside-other (bitsOn b ks) (checksBy b ks) (nb * b) (q * b) (nearby (q * b)) light u ne (first-beside u some) .1)
@@ -141,14 +141,14 @@ module _ (b mb nb : ℕ) (pos : 0 < b) (ks : List Circ) (ranged : Ranged (mb * b
     first-turned = ap (rot b (x % b)) (sym turned-first) ∙ rot-back b pos back (x % b) back-forth x
 
     -- two bits of three edges that share a check
-    pub light-mends : (y : ℕ) → y < nb * b → y ≢ x → 0 < share x y → share x x ≡ 3 → share y y ≡ 3 → (k : ℕ) × (k ≤ 3) × Mends (edgesOf b ks) (nb * b) k (pair x y)
+    pub light-mends : (y : ℕ) → y < nb * b → y ≢ x → 0 < share x y → share x x ≡ 3 → share y y ≡ 3 → (k : ℕ) × (k ≤ lightFlips) × Mends (edgesOf b ks) (nb * b) k (pair x y)
     light-mends y hy ne some three three′ =
         let x₀ = x / b * b in
         let y₀ = rot b back y in
         let ne₀ = first-other y ne in
         let t = first-pair (x / b) in-block y₀ ne₀ (rw (share-rot y) at some) (sym (ap (share x₀) turned-first) ∙ sym (share-rot x) ∙ three)
         (sym (share-turn (x % b) back forth-back back-forth y y) ∙ three′) in
-        let z = mends-sound (edgesOf b ks) (bitsOn b ks) (checksBy b ks) (bits-count b pos ks) (check-count b pos ks) (nb * b) 3 (x₀ ∷ y₀ ∷ []) (two-once x₀ y₀ ne₀) t in
+        let z = mends-sound (edgesOf b ks) (bitsOn b ks) (checksBy b ks) (bits-count b pos ks) (check-count b pos ks) (nb * b) lightFlips (x₀ ∷ y₀ ∷ []) (two-once x₀ y₀ ne₀) t in
         let turn = mends-rot b mb nb pos ks ranged back (x % b) back-forth forth-back (z .0) (occurs (x₀ ∷ y₀ ∷ [])) (z .2) in
         (z .0, z .1, subst (Mends (edgesOf b ks) (nb * b) (z .0)) (fun-ext (λ v. at v)) turn)
       where

@@ -1,0 +1,36 @@
+//! One call of a decoder through both libraries: what it leaves, which is the same, or the comparison ends.
+use crate::same;
+use compare::archive::*;
+use compare::*;
+use labrador_ldpc::LDPCCode;
+
+/// Success, iterations and output.
+pub type Left = (bool, usize, Vec<u8>);
+
+pub fn decode_bf_both(i: usize, code: LDPCCode, input: &[u8], most: usize, dice: &mut Dice) -> Left {
+    let (mut theirs, mut ours) = (vec![0; code.output_len()], vec![0; code.output_len()]);
+    let (mut w, mut v) = (vec![0; code.decode_bf_working_len()], vec![0; code.decode_bf_working_len()]);
+    dice.fill(&mut ours);
+    dice.fill(&mut v);
+    let (success, iters) = code.decode_bf(input, &mut theirs, &mut w, most);
+    let report = decode_bf(i, input, &mut ours, &mut v, most);
+    let want = Report { answer: 0, success: success as u8, iters };
+    same("decode_bf", code, &(input, most), (report, &ours), (want, &theirs));
+    same("decode_bf's working", code, &(input, most), v.iter().all(|&x| x == 0), true);
+    (success, iters, ours)
+}
+
+pub fn decode_ms_both(i: usize, code: LDPCCode, input: &[i8], most: usize, dice: &mut Dice) -> Left {
+    let (mut theirs, mut ours) = (vec![0; code.output_len()], vec![0; code.output_len()]);
+    let (mut w, mut v) = (vec![0i8; code.decode_ms_working_len()], vec![0i8; code.decode_ms_working_len()]);
+    let (mut s, mut t) = (vec![0; code.decode_ms_working_u8_len()], vec![0; code.decode_ms_working_u8_len()]);
+    dice.fill(&mut ours);
+    dice.fill(&mut t);
+    v.iter_mut().for_each(|x| *x = (dice.next() >> 40) as i8);
+    let (success, iters) = code.decode_ms(input, &mut theirs, &mut w, &mut s, most);
+    let report = decode_ms(i, input, &mut ours, &mut v, &mut t, most);
+    let want = Report { answer: 0, success: success as u8, iters };
+    same("decode_ms", code, &(input, most), (report, &ours), (want, &theirs));
+    same("decode_ms's working", code, &(input, most), v.iter().all(|&x| x == 0) && t.iter().all(|&x| x == 0), true);
+    (success, iters, ours)
+}
