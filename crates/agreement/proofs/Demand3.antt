@@ -3,7 +3,7 @@ use mathlib.Core.Bool.{Bool, true, false}
 use mathlib.Core.List.{List, [], _∷_}
 use mathlib.Core.Logic.{_⊎_}
 use mathlib.Core.Path.{_≡_, sym, ap, _∙_, subst}
-use Prim.Native.Nat.{ℕ, _+_, _/_, _%_, _≤_, _<_}
+use Prim.Native.Nat.{ℕ, _+_, _*_, _/_, _%_, _≤_, _<_}
 use native.Mathlib.Omega.{arith}
 use lib.IntN.{ℤ, pos, negsuc}
 use lib.ListN.{length}
@@ -21,6 +21,7 @@ use Rattle.report.specs.declared.Report.{Report}
 use Rattle.report.specs.Report.{ending}
 use Rattle.bit_flip.specs.Outcome as flip
 use Rattle.two_flips.specs.Flips.{PairFlips}
+use Rattle.two_flips.proofs.Frames as flips
 use Rattle.min_sum.specs.Confidence.{i8}
 use Rattle.min_sum.specs.Hard.{toHard, toLlrs}
 use Rattle.min_sum.specs.Outcomes.{Outcome, left, decodeOutcome, Written, written, toLlrsOutcome}
@@ -130,6 +131,17 @@ module _ {code : ℕ} (tc : TC code) {frame : List ℕ} (sent : Sent code frame)
         let (x, y, n, is, taken, r) = flip-two tc sent lent limit accepted two k in
         let (success, iters, out) = back (left-told ∙ r) in
         (x, y, is, subst (PairFlips (edges code) x y) (sym iters) taken, success, out)
+
+  -- with any bits flipped it is answered as these bits alone would be, with the frame added: what becomes of them does not depend on the data
+  pub errors-alone : (received errors : List ℕ) → ((v : ℕ) → v < 8 * length frame → bitAt received v ≡ (bitAt frame v + bitAt errors v) % 2)
+      → (limit : ℕ) (old working old′ working′ : List ℕ) {report report′ : Report} {output output′ left left′ : List ℕ}
+      → flip.left report output left ≡ flip.outcome code received old working limit → report .answer ≡ 0
+      → flip.left report′ output′ left′ ≡ flip.outcome code errors old′ working′ limit → report′ .answer ≡ 0
+      → (report ≡ report′) × ((v : ℕ) → bitAt output v ≡ (bitAt frame v + bitAt output′ v) % 2)
+  errors-alone received errors differ limit old working old′ working′ e a e′ a′ =
+      rw (ap (λ (x : flip.Outcome). x .report) e, ap (λ (x : flip.Outcome). x .output) e, ap (λ (x : flip.Outcome). x .report) e′, ap (λ (x : flip.Outcome). x .output) e′)
+      (flips.errors-alone code tc frame (sender.sent-bytes sent) (sender.sent-length sent) sent-meets received old working limit
+      (accepted received old working limit e a) errors old′ working′ (accepted errors old′ working′ limit e′ a′) differ)
 
   -- unchanged, with a limit of at least 1, it comes back the same with success at iteration 0
   pub unchanged-bit-flipping : (old working : List ℕ) (limit : ℕ) → 1 ≤ limit → {report : Report} {output working′ : List ℕ}

@@ -5,7 +5,7 @@
 use mathlib.Core.Bool.{Bool, true, false}
 use mathlib.Core.List.{List, _++_}
 use mathlib.Core.Path.{_≡_, refl, sym, subst, _∙_, fun-ext}
-use Prim.Native.Nat.{ℕ, _+_, _-_, _*_, _/_, _≤_, _<_}
+use Prim.Native.Nat.{ℕ, _-_, _*_, _/_, _≤_, _<_}
 use native.Mathlib.Nat.{mod-eq-of-lt}
 use native.Mathlib.Decide.{decLt}
 use native.Mathlib.Omega.{arith}
@@ -38,7 +38,7 @@ use Rattle.bit_flip.proofs.Votes.{no-bits, no-limit}
 use Rattle.bit_flip.proofs.Whole.{received-bits, voted-length, filled-bits}
 
 -- ---- bits as bytes: the same word
-packed-word : (w : List ℕ) (n : ℕ) → length w ≡ 8 * n → Bits w → bitAt (pack (wordOf w) n) ≡ wordOf w
+pub packed-word : (w : List ℕ) (n : ℕ) → length w ≡ 8 * n → Bits w → bitAt (pack (wordOf w) n) ≡ wordOf w
 packed-word w n e bits = fun-ext (λ v. at v (decLt v (n * 8)))
   where
     at : (v : ℕ) → Dec (v < n * 8) → bitAt (pack (wordOf w) n) v ≡ wordOf w v
@@ -71,11 +71,11 @@ module _ (es : List Edge) (m : ℕ) where
   passes-success : (limit : ℕ) (w : List ℕ) → passes es m limit w .success ≡ true → holds es m (wordOf (passes es m limit w .state)) ≡ true
   passes-success limit w e = run-success (pass es m) (λ s. holds es m (wordOf s) ≡ true) (λ s t q. stopped s t q .1) limit 0 w e
 
-  passes-bits : (limit : ℕ) (w : List ℕ) → Bits w → Bits (passes es m limit w .state)
+  pub passes-bits : (limit : ℕ) (w : List ℕ) → Bits w → Bits (passes es m limit w .state)
   passes-bits limit w h =
       run-kept (pass es m) Bits (λ s t q b. subst Bits (stopped s t q .0) b) (λ s t q b. subst Bits (sym (gone s t q)) (flipped-bits es s b)) limit 0 w h
 
-  passes-length : (limit : ℕ) (w : List ℕ) → length (passes es m limit w .state) ≡ length w
+  pub passes-length : (limit : ℕ) (w : List ℕ) → length (passes es m limit w .state) ≡ length w
   passes-length limit w =
       run-kept (pass es m) (λ s. length s ≡ length w) (λ s t q l. subst (λ (x : List ℕ). length x ≡ length w) (stopped s t q .0) l)
       (λ s t q l. subst (λ (x : List ℕ). length x ≡ length w) (sym (gone s t q)) (flipped-length es s ∙ l)) limit 0 w refl

@@ -1,9 +1,8 @@
 -- A list that a loop reads or rewrites from its first element on, and its largest number. Assumes nothing.
-use mathlib.Core.Bool.{Bool, true, false}
 use mathlib.Core.List.{List, [], _∷_, _++_, map, append-nil, append-assoc}
 use mathlib.Core.Path.{_≡_, refl, sym, ap, _∙_, subst}
 use Prim.Native.Nat.{ℕ, zero, suc, _+_, _-_, _≤_, _<_, max}
-use native.Mathlib.Nat.{add-zero, zero-add, add-suc, suc-add, max-zero, le-of-suc-le-suc, not-suc-le-zero}
+use native.Mathlib.Nat.{add-zero, zero-add, max-zero, le-of-suc-le-suc, not-suc-le-zero}
 use native.Mathlib.Numerals.{add-one}
 use native.Mathlib.Decide.{decLt}
 use native.Mathlib.Omega.{arith}
@@ -13,7 +12,7 @@ use lib.ListN.{length, getD, set, drop, replicate, length-append, length-drop, l
 use lib.Seq.{sets, drop-cons, set-at, set-getD, getD-at, getD-append-add, ext-getD}
 use Rattle.maths.specs.Tests.{both, below}
 use Rattle.maths.specs.Lists.{span, fold, largestOf, overwrite}
-use Rattle.maths.proofs.Lists.{span-split, span-length, span-ext, getD-span}
+use Rattle.maths.proofs.Lists.{span-split, span-length, getD-span}
 
 -- ---- what stands in a span
 pub span-get : {A : Type 0} (f : ℕ → A) (d : A) (n i : ℕ) → i < n → getD (span f 0 n) i d ≡ f i

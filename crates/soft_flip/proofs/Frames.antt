@@ -9,7 +9,7 @@ use native.Mathlib.Decide.{decLt}
 use native.Mathlib.Omega.{arith}
 use lib.Dec.{eqb}
 use lib.IntN.{ℤ, pos, negsuc}
-use lib.ListN.{length, getD, replicate, List·getD-eq-default, List·getD-append}
+use lib.ListN.{length, getD, replicate, List·getD-eq-default}
 use Rattle.maths.specs.Tests.{pick}
 use Rattle.maths.specs.Bits.{bitAt}
 use Rattle.maths.specs.Bytes.{Bytes}
@@ -31,9 +31,8 @@ use Rattle.min_sum.specs.Soft.{below0}
 use Rattle.min_sum.specs.Confidence.{Confidence, whole}
 use Rattle.min_sum.specs.MinSum.{Messages, hardBits, start, pass, decoded}
 use Rattle.min_sum.specs.Hard.{toHard, toLlrs}
-use Rattle.min_sum.specs.Outcomes.{Outcome, left, decodeAnswer, finishedAs, decodeOutcome}
+use Rattle.min_sum.specs.Outcomes.{left, decodeAnswer, finishedAs, decodeOutcome}
 use Rattle.min_sum.proofs.Answers.{decode-lent}
-use Rattle.min_sum.proofs.Conversions.{llrs-length}
 use Rattle.min_sum.proofs.Marginals.{first-hard, pass-length}
 use Rattle.min_sum.proofs.Packed.{hard-bit}
 use Rattle.min_sum.proofs.Success.{sized-state, accepted-is, steady}

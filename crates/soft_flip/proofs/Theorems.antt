@@ -12,7 +12,7 @@ use lib.ListN.{length, getD}
 use Rattle.maths.specs.Tests.{below}
 use Rattle.maths.specs.Lists.{span}
 use Rattle.maths.specs.Ones.{delta}
-use Rattle.maths.specs.Budget.{End, end, run}
+use Rattle.maths.specs.Budget.{end, run}
 use Rattle.maths.proofs.Tests.{below-at}
 use Rattle.maths.proofs.Ones.{sum-all}
 use Rattle.codes.specs.Tables.{prototypes}
@@ -36,7 +36,7 @@ use Rattle.two_flips.proofs.Theorems.{share-own, share-few}
 use Rattle.min_sum.specs.Confidence.{whole}
 use Rattle.min_sum.specs.MinSum.{Messages, hardBits, start, pass, turn, decoded}
 use Rattle.soft_flip.specs.OneSize.{level}
-use Rattle.soft_flip.proofs.Right.{pass₀, pass₁, hard₁, ends, ends-late}
+use Rattle.soft_flip.proofs.Right.{pass₁, hard₁, ends, ends-late}
 
 -- ---- every check has two edges at least
 rowsTest : ℕ → Bool

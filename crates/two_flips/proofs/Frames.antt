@@ -1,4 +1,5 @@
 -- Bytes: a TC frame that arrives with one or two bits flipped is returned by bit flipping. Assumes nothing.
+--     errors-alone     with any bits flipped it is answered as these bits alone, with the frame added
 --     one-put-right    one bit: with success at iteration 1; one-seen-late with a limit of 1
 --     two-put-right    two bits: with success at iteration 1, 2 or 3
 use mathlib.Core.Bool.{Bool, true, false}
@@ -12,12 +13,12 @@ use lib.Dec.{T, ltb, ltb→lt}
 use lib.ListN.{length, replicate}
 use Rattle.maths.specs.Tests.{all}
 use Rattle.maths.specs.Bits.{bitAt}
-use Rattle.maths.specs.Bytes.{Bytes}
+use Rattle.maths.specs.Bytes.{Bytes, pack}
 use Rattle.maths.specs.Lists.{span}
 use Rattle.maths.specs.Sums.{sumL}
 use Rattle.maths.specs.Ones.{delta}
 use Rattle.maths.specs.Distance.{unequal, distance, places}
-use Rattle.maths.specs.Budget.{end}
+use Rattle.maths.specs.Budget.{End, end}
 use Rattle.maths.proofs.Tests.{both-left, both-right}
 use Rattle.maths.proofs.Lists.{span-length, span-ext}
 use Rattle.maths.proofs.Slices.{span-get}
@@ -34,11 +35,11 @@ use Rattle.bit_flip.specs.Flip.{passes}
 use Rattle.bit_flip.specs.Steps.{Bits}
 use Rattle.bit_flip.specs.Outcome.{Outcome, left, decodeWord, received, punctured, decoded, outcome}
 use Rattle.bit_flip.proofs.Scores.{span-bits}
-use Rattle.bit_flip.proofs.Theorems.{answerOf, is-accepted, received-word}
+use Rattle.bit_flip.proofs.Theorems.{packed-word, passes-bits, passes-length, answerOf, is-accepted, received-word}
 use Rattle.bit_flip.proofs.Votes.{no-bits}
 use Rattle.two_flips.specs.Words.{plus}
 use Rattle.two_flips.specs.Flips.{PairFlips}
-use Rattle.two_flips.proofs.Added.{plus-is}
+use Rattle.two_flips.proofs.Added.{plus-at, plus-is, endPlus, passes-plus}
 use Rattle.two_flips.proofs.Mends.{Mends, mended, untested, clear-mends}
 use Rattle.two_flips.proofs.Pairs.{pair}
 use Rattle.two_flips.proofs.Theorems.{pair-low, all-clear, pair-mends}
@@ -46,6 +47,25 @@ use Rattle.two_flips.proofs.Theorems.{pair-low, all-clear, pair-mends}
 -- an accepted call that ends after k passes and leaves s
 abbrev pub leaves : ℕ → Bool → ℕ → List ℕ → Outcome
 leaves code success k s = left (ending success k) s (replicate (bitsIn code) 0)
+
+-- what the passes over the word received leave: no bit of a TC code is erased
+module _ (code : ℕ) (tc : TC code) (limit : ℕ) (t : List ℕ) where
+  abbrev ended : End (List ℕ)
+  ended = passes (edges code) (checksIn code) limit (received code t)
+
+  outcome-is : (output working : List ℕ) → answerOf code t output working ≡ 0
+      → outcome code t output working limit ≡ leaves code (ended .success) (ended .turns) (pack (wordOf (ended .state)) (rowOf code .«output_len»))
+  unfolding decoded decodeWord
+  outcome-is output working accepted =
+      let z = sym (no-bits (punctured code) (edges code) (rowOf code .«punctured_bits») limit (received code t) (tc-sent code tc)) in
+      is-accepted code t output working limit accepted ∙ rw (z, add-zero (ended .turns))
+
+  -- the output's bits are the word's
+  output-word : bitAt (pack (wordOf (ended .state)) (rowOf code .«output_len»)) ≡ wordOf (ended .state)
+  output-word =
+      packed-word (ended .state) (rowOf code .«output_len»)
+      (passes-length (edges code) (checksIn code) limit (received code t) ∙ span-length (bitAt t) 0 (bitsIn code) ∙ sym (roomy code (omega arith) .whole))
+      (passes-bits (edges code) (checksIn code) limit (received code t) (span-bits (bitAt t) (bitAt-low t) (bitsIn code)))
 
 module _ (code : ℕ) (tc : TC code) (s : List ℕ) (bytes : Bytes s) (long : length s ≡ rowOf code .n / 8) (good : Meets code (bitAt s)) where
   abbrev known-code : Known code
@@ -97,25 +117,49 @@ module _ (code : ℕ) (tc : TC code) (s : List ℕ) (bytes : Bytes s) (long : le
         go (x ∷ []) len low flip = (x, low-at x [] low, λ v l. rw (add-zero (delta x v)) at (flip v l))
         go (x ∷ y ∷ vs) len low flip = absurd (omega arith)
 
+    -- the word received is the frame with the errors added
+    module _ (f : ℕ → ℕ) (differ : (v : ℕ) → v < 8 * length s → bitAt t v ≡ (bitAt s v + f v) % 2) where
+      sum : received code t ≡ plus word (span f 0 (bitsIn code))
+      sum =
+          sym (plus-is word (span f 0 (bitsIn code)) f (λ v l. span-get f 0 (bitsIn code) v (omega (arith, word-long)))
+          ∙ rw word-long (span-ext (λ v. (wordOf word v + f v) % 2) (bitAt t) 0 0 (bitsIn code) (λ v l.
+          ap (λ (g : ℕ → ℕ). (g (0 + v) + f (0 + v)) % 2) word-is ∙ sym (differ (0 + v) (omega (arith, whole))))))
+
     module _ (output working : List ℕ) (limit : ℕ) (accepted : answerOf code t output working ≡ 0) where
+      -- any errors, by bytes
+      module _ (e output′ working′ : List ℕ) (accepted′ : answerOf code e output′ working′ ≡ 0)
+          (differ : (v : ℕ) → v < 8 * length s → bitAt t v ≡ (bitAt s v + bitAt e v) % 2) where
+        added : ended code tc limit t ≡ endPlus word (ended code tc limit e)
+        added =
+            ap (passes (edges code) (checksIn code) limit) (sum (bitAt e) differ)
+            ∙ passes-plus (edges code) (checksIn code) (bitsIn code) (edges-ranged code known-code) word word-good word-bits limit (received code e)
+            (span-length (bitAt e) 0 (bitsIn code) ∙ sym word-long) (span-bits (bitAt e) (bitAt-low e) (bitsIn code))
+
+        pub errors-alone : (outcome code t output working limit .report ≡ outcome code e output′ working′ limit .report)
+            × ((v : ℕ) → bitAt (outcome code t output working limit .output) v ≡ (bitAt s v + bitAt (outcome code e output′ working′ limit .output) v) % 2)
+        errors-alone =
+            rw (outcome-is code tc limit t output working accepted, outcome-is code tc limit e output′ working′ accepted′)
+            (ap (λ (x : End (List ℕ)). ending (x .success) (x .turns)) added, bits)
+          where
+            bits : (v : ℕ) → bitAt (pack (wordOf (ended code tc limit t .state)) (rowOf code .«output_len»)) v
+                ≡ (bitAt s v + bitAt (pack (wordOf (ended code tc limit e .state)) (rowOf code .«output_len»)) v) % 2
+            bits v =
+                ap (λ (g : ℕ → ℕ). g v) (output-word code tc limit t)
+                ∙ ap (λ (x : End (List ℕ)). wordOf (x .state) v) added
+                ∙ plus-at word (ended code tc limit e .state)
+                (passes-length (edges code) (checksIn code) limit (received code e) ∙ span-length (bitAt e) 0 (bitsIn code) ∙ sym word-long) v
+                ∙ ap (λ (g : ℕ → ℕ). (wordOf word v + g v) % 2) (sym (output-word code tc limit e))
+                ∙ ap (λ (g : ℕ → ℕ). (g v + bitAt (pack (wordOf (ended code tc limit e .state)) (rowOf code .«output_len»)) v) % 2) word-is
+
+      -- errors that go away
       module _ (k : ℕ) (f : ℕ → ℕ) (low : (v : ℕ) → f v < 2) (differ : (v : ℕ) → v < 8 * length s → bitAt t v ≡ (bitAt s v + f v) % 2)
           (x : Mends (edges code) (bitsIn code) k f) where
-        -- the word received is the frame with the errors added
-        sum : plus word (span f 0 (bitsIn code)) ≡ received code t
-        sum =
-            plus-is word (span f 0 (bitsIn code)) f (λ v l. span-get f 0 (bitsIn code) v (omega (arith, word-long)))
-            ∙ rw word-long (span-ext (λ v. (wordOf word v + f v) % 2) (bitAt t) 0 0 (bitsIn code) (λ v l.
-            ap (λ (g : ℕ → ℕ). (g (0 + v) + f (0 + v)) % 2) word-is ∙ sym (differ (0 + v) (omega (arith, whole)))))
-
         -- the passes that restore the frame leave it
         by-passes : (success : Bool) → passes (edges code) (checksIn code) limit (plus word (span f 0 (bitsIn code))) ≡ end success k word
             → outcome code t output working limit ≡ leaves code success k s
-        unfolding decoded decodeWord
         by-passes success ran =
-            let z = sym (no-bits (punctured code) (edges code) (rowOf code .«punctured_bits») limit (received code t) (tc-sent code tc)) in
             let o : rowOf code .«output_len» ≡ length s = omega (arith, whole, roomy code known-code .whole) in
-            let e : k + 0 ≡ k = omega arith in
-            is-accepted code t output working limit accepted ∙ rw (z, ← sum, ran, o, word-is, pack-again s bytes, e)
+            outcome-is code tc limit t output working accepted ∙ rw (sum f differ, ran, o, word-is, pack-again s bytes)
 
         by-mends : k < limit → outcome code t output working limit ≡ leaves code true k s
         by-mends h =
