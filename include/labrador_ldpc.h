@@ -54,13 +54,15 @@ uint8_t ldpc_copy_encode(size_t code, const uint8_t *data, size_t data_len, uint
 
 /* Bit flipping. input: n/8 bytes; output: output_len bytes; working: decode_bf_working_len bytes. *success becomes 1
  * where the output meets every parity equation at the start of pass *iters, counted from 0; else it becomes 0 and
- * *iters maxiters. The output is written in both cases. */
+ * *iters maxiters. The output is written in both cases. A TC frame with one flipped bit is put right if maxiters is 2
+ * or more, with two if it is 4 or more. */
 uint8_t ldpc_decode_bf(size_t code, const uint8_t *input, size_t input_len, uint8_t *output, size_t output_len,
                        uint8_t *working, size_t working_len, size_t maxiters, uint8_t *success, size_t *iters);
 
 /* Min-sum. llrs: n confidences, negative for a bit 1; output: output_len bytes; working: decode_ms_working_len
  * numbers; working_u8: decode_ms_working_u8_len bytes. *success becomes 1 where the output meets every parity equation
- * after pass *iters, counted from 0; else it becomes 0 and *iters maxiters. The output is written in both cases. */
+ * after pass *iters, counted from 0; else it becomes 0 and *iters maxiters. The output is written in both cases. A TC
+ * frame with one flipped bit is put right if all confidences are of one size and maxiters is 2 or more. */
 uint8_t ldpc_decode_ms_i8(size_t code, const int8_t *llrs, size_t llrs_len, uint8_t *output, size_t output_len,
                           int8_t *working, size_t working_len, uint8_t *working_u8, size_t working_u8_len,
                           size_t maxiters, uint8_t *success, size_t *iters);

@@ -29,8 +29,9 @@ module _ (top k : ℕ) (fits : suc k ≤ top) where
   abbrev o : Confidence ℤ
   o = whole top
 
+  -- ---- the first loop of pass 1, for a word r of n bits: what pass 0 left on the edges from number j on, and at the checks
   module _ (m n : ℕ) (r odd : ℕ → Bool) where
-    record Told (j : ℕ) (es : List Edge) (s : Messages ℤ) : Type 0 where
+    record Heard (j : ℕ) (es : List Edge) (s : Messages ℤ) : Type 0 where
       held : Held top k fits m n r j es (s .v)
       first : (a : ℕ) → a < m → at o (s .first) a ≡ pos (suc k)
       second : (a : ℕ) → a < m → at o (s .second) a ≡ pos (suc k)
@@ -38,7 +39,7 @@ module _ (top k : ℕ) (fits : suc k ≤ top) where
       long : length (s .marginals) ≡ n
       ranged : T (all (inRange m n) es)
 
-    module _ (j : ℕ) (e : Edge) (es : List Edge) (s : Messages ℤ) (q : Told j (e ∷ es) s) where
+    module _ (j : ℕ) (e : Edge) (es : List Edge) (s : Messages ℤ) (q : Heard j (e ∷ es) s) where
       in-range : T (inRange m n e)
       in-range = both-left (inRange m n e) (all (inRange m n) es) (q .ranged)
 
@@ -66,9 +67,9 @@ module _ (top k : ℕ) (fits : suc k ≤ top) where
       unfolding addMessage
       after-marginals = ap (λ (x : ℤ). set (s .marginals) (e .bit) (satAdd top (at o (s .marginals) (e .bit)) x)) message-is
 
-      told-next : Told (suc j) es after
+      heard-next : Heard (suc j) es after
       unfolding addMessage
-      told-next = record {
+      heard-next = record {
         held = q .held .1;
         first = q .first;
         second = q .second;
@@ -77,12 +78,12 @@ module _ (top k : ℕ) (fits : suc k ≤ top) where
         ranged = both-right (inRange m n e) (all (inRange m n) es) (q .ranged);
       }
 
-    summed : (i : ℕ) (j : ℕ) (es : List Edge) (s : Messages ℤ) → Told j es s
+    summed : (i : ℕ) (j : ℕ) (es : List Edge) (s : Messages ℤ) → Heard j es s
         → at o (fold (addMessage o) (numbered j es) s .marginals) i ≡ total top k (signs odd (r i) (checksOf es i)) (at o (s .marginals) i)
     unfolding fold numbered total
     summed i j [] s q = refl
     summed i j (e ∷ es) s q =
-        summed i (suc j) es (after j e es s q) (told-next j e es s q)
+        summed i (suc j) es (after j e es s q) (heard-next j e es s q)
         ∙ rw (after-marginals j e es s q) (go (ℕ-discrete (e .bit) i))
       where
         go : Dec (e .bit ≡ i)
@@ -159,9 +160,9 @@ module _ (top k : ℕ) (fits : suc k ≤ top) where
         let y = first-two (length (bitsOf es a) + 0) (omega (arith, two a h)) in
         (x .0 ∙ y .0, x .1 ∙ y .1)
 
-    told : Told m n r odd 0 es (restarted o llrs 0 pass₀)
+    heard : Heard m n r odd 0 es (restarted o llrs 0 pass₀)
     unfolding restarted pass renewed
-    told = record {
+    heard = record {
       held = held top k fits m n r 0 es (renewed o m added) ready;
       first = λ a h. least a h .0;
       second = λ a h. least a h .1;
@@ -176,7 +177,7 @@ module _ (top k : ℕ) (fits : suc k ≤ top) where
     unfolding restarted
     second-marginals i h =
         ap (λ (xs : List ℤ). at o xs i) (pass-marginals o es m 0 llrs pass₀)
-        ∙ summed m n r odd i 0 es (restarted o llrs 0 pass₀) told
+        ∙ summed m n r odd i 0 es (restarted o llrs 0 pass₀) heard
         ∙ ap (total top k (signs odd (r i) (checksOf es i))) (whole-given i h)
 
     -- the marginals of pass 0 are those given

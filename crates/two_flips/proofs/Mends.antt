@@ -10,7 +10,7 @@ use lib.ListN.{length}
 use borrow.Author.Tests.{eq-eqb, ne-eqb}
 use Rattle.maths.specs.Tests.{pick}
 use Rattle.maths.specs.Lists.{span}
-use Rattle.maths.specs.Budget.{end, run}
+use Rattle.maths.specs.Budget.{go, end, run}
 use Rattle.maths.specs.Sums.{sumL}
 use Rattle.maths.specs.Ones.{delta}
 use Rattle.maths.proofs.Sums.{sumL-zero}
@@ -79,29 +79,35 @@ module _ (es : List Edge) (m n : ℕ) (ranged : Ranged m n es) where
       par-below m n es ranged (wordOf (span (λ v. 0) 0 n)) (λ v. 0) (λ v l. ap (λ (x : ℕ). x % 2) (span-get (λ v. 0) 0 n v l)) a
       ∙ ap (λ (x : ℕ). x % 2) (sumL-zero (bitsOf es a)))
 
+  -- errors that are gone, and a turn that flips
+  none-left : (f : ℕ → ℕ) → ((v : ℕ) → v < n → f v ≡ 0) → span f 0 n ≡ span (λ v. 0) 0 n
+  none-left f none = span-ext f (λ v. 0) 0 0 n (λ v l. none (0 + v) (omega arith))
+
+  turn-flips : (f g : ℕ → ℕ) (top u : ℕ) → 0 < top → u < n → scoreAt es f u ≡ top → ((v : ℕ) → v < n → scoreAt es f v ≤ top)
+      → ((v : ℕ) → v < n → g v ≡ pick (eqb (scoreAt es f v) top) (1 - f v) (f v)) → pass es m (span f 0 n) ≡ go (span g 0 n)
+  unfolding pass
+  turn-flips f g top u pos hu at most next = rw (not-held f u (omega arith), flipped-span f g top u hu at most next)
+
   -- the run from such errors: one turn more finds that none is left
   run-mends : (k : ℕ) (f : ℕ → ℕ) → Mends es n k f → (b j : ℕ) → k < b → run (pass es m) b j (span f 0 n) ≡ end true (j + k) (span (λ v. 0) 0 n)
   unfolding run pass
   run-mends k f x zero j h = absurd (omega arith)
   run-mends k f (gone none) (suc b) j h =
-      let z : span f 0 n ≡ span (λ v. 0) 0 n = span-ext f (λ v. 0) 0 0 n (λ v l. none (0 + v) (omega arith)) in
       let e : j + 0 ≡ j = omega arith in
-      rw (z, zeros-hold, e)
+      rw (none-left f none, zeros-hold, e)
   run-mends k f (flips {k = k′} top u g pos hu at most next rest) (suc b) j h =
-      let later = run-mends k′ g rest b (suc j) (omega arith) in
       let e : j + suc k′ ≡ suc j + k′ = omega arith in
-      rw (not-held f u (omega arith), flipped-span f g top u hu at most next, e) later
+      rw (turn-flips f g top u pos hu at most next, e) (run-mends k′ g rest b (suc j) (omega arith))
 
-  -- and without it none is left either, but nothing is found
+  -- and without it none is left either, but that is not found
   run-spent : (k : ℕ) (f : ℕ → ℕ) → Mends es n k f → (j : ℕ) → run (pass es m) k j (span f 0 n) ≡ end false (j + k) (span (λ v. 0) 0 n)
-  unfolding run pass
+  unfolding run
   run-spent k f (gone none) j =
-      let z : span f 0 n ≡ span (λ v. 0) 0 n = span-ext f (λ v. 0) 0 0 n (λ v l. none (0 + v) (omega arith)) in
       let e : j + 0 ≡ j = omega arith in
-      rw (z, e)
+      rw (none-left f none, e)
   run-spent k f (flips {k = k′} top u g pos hu at most next rest) j =
       let e : j + suc k′ ≡ suc j + k′ = omega arith in
-      rw (not-held f u (omega arith), flipped-span f g top u hu at most next, e) (run-spent k′ g rest (suc j))
+      rw (turn-flips f g top u pos hu at most next, e) (run-spent k′ g rest (suc j))
 
   -- so a word that meets the equations comes back from such errors: at pass k, and without success where the limit is k
   module _ (w : List ℕ) (bits : Bits w) (long : length w ≡ n) (good : Hold es m (wordOf w)) (k : ℕ) (f : ℕ → ℕ) (low : (v : ℕ) → f v < 2) (x : Mends es n k f) where
