@@ -131,10 +131,7 @@ pub fn compare_flips(random: usize) -> usize {
     for (i, &code) in CODES.iter().enumerate().take(3) {
         let mut dice = Dice::new(31 + i as u64);
         let every: Vec<_> = (0..code.n()).flat_map(|x| (0..x).map(move |y| (x, y))).collect();
-        let pairs: Vec<_> = match every.len() <= random {
-            true => every,
-            false => (0..random).map(|_| every[dice.below(every.len())]).collect(),
-        };
+        let pairs = if every.len() <= random { every } else { (0..random).map(|_| every[dice.below(every.len())]).collect() };
         cases += compare_one(i, code, &mut dice) + compare_two(i, code, &pairs, &mut dice) + compare_three(i, code, random, &mut dice);
     }
     cases

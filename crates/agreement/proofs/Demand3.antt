@@ -178,7 +178,7 @@ module _ {code : ℕ} (tc : TC code) {frame : List ℕ} (sent : Sent code frame)
     one-seen-late-min-sum one k =
         back (soft-told ∙ rw (k, ← hard-same) (soft-late tc sent 127 0 (omega arith) soft-lent one-size soft-accepted (rw hard-same one)))
 
-  -- and so does the frame unchanged
+  -- unchanged, with a limit of at least 1, it comes back the same with success at iteration 0
   pub unchanged-min-sum : (answer : ℕ) (before llrs : List ℤ) → written answer llrs ≡ toLlrsOutcome (negsuc 0) (pos 1) code frame before → answer ≡ 0
       → (old : List ℕ) (working : List ℤ) (signs : List ℕ) (limit : ℕ) → 1 ≤ limit
       → {report : Report} {output : List ℕ} {working′ : List ℤ} {signs′ : List ℕ}

@@ -56,10 +56,10 @@ frame-zeros : frame 0 ≡ zeros 16
 unfolding rows
 frame-zeros = zero-frame 0 (omega arith)
 
-abbrev flipped : List ℕ
-flipped = 0x80 ∷ zeros 15
+abbrev damaged : List ℕ
+damaged = 0x80 ∷ zeros 15
 
-one-flipped : distance (frame 0) flipped ≡ 1
+one-flipped : distance (frame 0) damaged ≡ 1
 unfolding distance
 one-flipped = rw frame-zeros
 
@@ -165,21 +165,21 @@ module _ {B : Type 0} {calls : Receiving B} {ours : Decoder B} (c : Receives cal
 
 -- ---- one flipped bit, in calls that bring their bits plain
 module _ {B : Type 0} {calls : Receiving B} {ours : Decoder B} (c : Receives calls ours) (plain : B → Type 0) (is-plain : (s : List ℕ) → plain (c .lend s)) where
-  put-right : (d : Decoder B) → FewFlipsReturn calls plain 1 d → d 0 (c .lend flipped) 2 ≡ told (ending true 1) (frame 0)
+  put-right : (d : Decoder B) → FewFlipsReturn calls plain 1 d → d 0 (c .lend damaged) 2 ≡ told (ending true 1) (frame 0)
   put-right d f =
-      let e : distance (frame 0) (calls .word (c .lend flipped)) ≡ 1 = rw (c .brings flipped (bytes-then 0x80 15 (omega arith))) one-flipped in
-      f .one 0 (c .lend flipped) 2 (frame 0) (omega arith) (frame-sent 0 (omega arith)) (c .accepted flipped refl) (is-plain flipped) e (omega arith)
+      let e : distance (frame 0) (calls .word (c .lend damaged)) ≡ 1 = rw (c .brings damaged (bytes-then 0x80 15 (omega arith))) one-flipped in
+      f .one 0 (c .lend damaged) 2 (frame 0) (omega arith) (frame-sent 0 (omega arith)) (c .accepted damaged refl) (is-plain damaged) e (omega arith)
 
   -- and so the output is the frame
-  put-out : (d : Decoder B) (s : List ℕ) → FewFlipsReturn calls plain 1 d → d 0 (c .lend flipped) 2 .output ≡ s → getD s 0 0 ≡ 0
+  put-out : (d : Decoder B) (s : List ℕ) → FewFlipsReturn calls plain 1 d → d 0 (c .lend damaged) 2 .output ≡ s → getD s 0 0 ≡ 0
   put-out d s f e = ap (λ (x : List ℕ). getD x 0 0) (sym e ∙ ap (λ (x : Told). x .output) (put-right d f) ∙ frame-zeros)
 
   no-idle-corrector : NoIdleCorrector calls plain
   no-idle-corrector =
       record {
         failing = λ d f. let z : _≡_ {A = ℕ} 0 1 = cc (ap (λ (x : Told). x .report .success) (put-right (fails d) f)) in omega arith;
-        copying = λ says f. omega (arith, put-out (copies calls says) flipped f (c .brings flipped (bytes-then 0x80 15 (omega arith))));
-        resting = λ says f. omega (arith, put-out (rests calls says) spoilt f (c .before flipped));
+        copying = λ says f. omega (arith, put-out (copies calls says) damaged f (c .brings damaged (bytes-then 0x80 15 (omega arith))));
+        resting = λ says f. omega (arith, put-out (rests calls says) spoilt f (c .before damaged));
         made-up = λ number d f code b limit s tc sent h p e k. ap (λ (x : Told). x .report .iters) (f .one code b limit s tc sent h p e k);
         one-number = λ n d f.
             let same : Decoder B = renumbered (λ code b limit. n) d in

@@ -88,8 +88,8 @@ module _ {B : Type 0} (calls : Receiving B) (d : Decoder B) where
   abbrev pub DecodesAs : Type 0
   DecodesAs = (code : ℕ) (b : B) (limit : ℕ) → calls .answer code b ≡ 0 → d code b limit ≡ calls .steps code b limit
 
--- request T-11, and beyond it what the tables give: a frame of a TC code that comes with few bits flipped, and a limit that is large enough, comes
--- back. Of the calls that bring their bits `plain`; `most` bits are flipped at most, one or two
+-- request T-11, and beyond it what the tables give: a frame of a TC code comes back though one of its bits, or two where `most` is two, were flipped
+-- on the way. `plain` are the calls of which this is asked
 pub record FewFlipsReturn {B : Type 0} (calls : Receiving B) (plain : B → Type 0) (most : ℕ) (d : Decoder B) : Type 0 where
   pub unchanged : FrameReturns calls d
   -- "the limit is 2 or more .. return the sent frame with (true, 1)"
