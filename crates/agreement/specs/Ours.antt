@@ -77,7 +77,7 @@ bitFlipping =
       steps = λ code b limit. let x = decoded code (b .input) limit in told (x .report) (x .output);
     }
 
--- every bit is as good as any other
+-- hard bits have no confidences: any call will do
 abbrev pub anyBits : Hard → Type 0
 anyBits b = T true
 
