@@ -38,6 +38,7 @@ use Rattle.min_sum.proofs.Packed.{hard-bit}
 use Rattle.min_sum.proofs.Success.{sized-state, accepted-is, steady}
 use Rattle.soft_flip.specs.OneSize.{level, OneSize}
 use Rattle.soft_flip.proofs.Levels.{level-hard}
+use Rattle.soft_flip.proofs.Right.{Input}
 use Rattle.soft_flip.proofs.Theorems.{soft-one, soft-late}
 
 -- "hard_to_llrs gives -1 for a 1 bit and +1 for a 0 bit"
@@ -104,11 +105,21 @@ module _ (code : ℕ) (tc : TC code) (s : List ℕ) (bytes : Bytes s) (long : le
       ) in
       z .1 ∙ ap (level k) (sym (ap (λ (b : ℕ). eqb b 1) at ∙ bit-test (z .0)))
 
+  input : Input (edges code) (checksIn code) (bitsIn code) k (wrong .0) frame llrs
+  input =
+      record {
+        bits = word-bits code tc s bytes long good;
+        long = frame-long;
+        good = word-good code tc s bytes long good;
+        llrs-long = llrs-long;
+        given = given;
+      }
+
   -- ---- a limit of 2 or more
   module _ (limit : ℕ) (enough : 2 ≤ limit) where
     ran : (q : Messages ℤ) × (decoded o code llrs limit ≡ end true 1 q) × ((i : ℕ) → i < bitsIn code → hardBits o (q .marginals) i ≡ wordOf frame i)
     ran =
-        soft-one code tc top k fits frame (word-bits code tc s bytes long good) frame-long (word-good code tc s bytes long good) (wrong .0) (wrong .1) llrs llrs-long given limit enough
+        soft-one code tc top k fits (wrong .0) (wrong .1) frame llrs input limit enough
 
     state-long : length (ran .0 .marginals) ≡ bitsIn code
     state-long = sym (ap (λ (e : End (Messages ℤ)). length (e .state .marginals)) (ran .1)) ∙ sized-state o code llrs limit known-code llrs-sent
@@ -154,5 +165,5 @@ module _ (code : ℕ) (tc : TC code) (s : List ℕ) (bytes : Bytes s) (long : le
   one-seen-late =
       accepted-is o code llrs output working signs 1 accepted
       ∙ ap (λ (e : End (Messages ℤ)). finishedAs o e (length working) (length signs))
-      (soft-late code tc top k fits frame (word-bits code tc s bytes long good) frame-long (word-good code tc s bytes long good) (wrong .0) (wrong .1) llrs llrs-long given)
+      (soft-late code tc top k fits (wrong .0) (wrong .1) frame llrs input)
       ∙ ap (λ (out : List ℕ). left (ending false 1) out (replicate (length working) (pos 0)) (replicate (length signs) 0)) first-same

@@ -6,9 +6,9 @@ use mathlib.Core.Path.{_≡_, refl, ap, _∙_}
 use Prim.Native.Nat.{ℕ, suc, _*_, _/_, _%_, _≤_, _<_}
 use native.Mathlib.Nat.{mod-lt, div-add-mod', div-lt-iff-lt-mul}
 use native.Mathlib.Omega.{arith}
-use lib.Dec.{T, eqb, leb, leb→le}
+use lib.Dec.{T, leb, leb→le}
 use lib.IntN.{ℤ, pos}
-use lib.ListN.{length, getD}
+use lib.ListN.{length}
 use Rattle.maths.specs.Tests.{below}
 use Rattle.maths.specs.Lists.{span}
 use Rattle.maths.specs.Ones.{delta}
@@ -19,7 +19,7 @@ use Rattle.codes.specs.Tables.{prototypes}
 use Rattle.codes.specs.Codes.{Known, TC, tcCodes, rows, tables, bitsIn, checksIn}
 use Rattle.codes.specs.Blocks.{blockOf, cellBlocks, rowBlocks, lastRows}
 use Rattle.codes.specs.Edges.{blocksOf, edges}
-use Rattle.codes.specs.Equations.{bitsOf, checksOf, par, wordOf, Meets}
+use Rattle.codes.specs.Equations.{bitsOf, checksOf, par, wordOf}
 use Rattle.codes.proofs.Flat.{edges-ranged}
 use Rattle.codes.proofs.Codes.{tc-sent}
 use Rattle.matrices.specs.Circulants.{Circ, circulantOf, circs, circsAt, blockCircs, edgesOf}
@@ -27,16 +27,13 @@ use Rattle.matrices.proofs.Sizes.{checkBlocks, sizes}
 use Rattle.matrices.proofs.Once.{once}
 use Rattle.matrices.proofs.Rows.{inRow, sumRow, par-row}
 use Rattle.matrices.proofs.Telecommand.{of-edges}
-use Rattle.bit_flip.specs.Steps.{Bits}
-use Rattle.two_flips.specs.Words.{plus, oneAt}
 use Rattle.two_flips.specs.Flips.{degree}
 use Rattle.two_flips.proofs.Scores.{scoreAt}
 use Rattle.two_flips.proofs.Pairs.{own}
 use Rattle.two_flips.proofs.Theorems.{share-own, share-few}
 use Rattle.min_sum.specs.Confidence.{whole}
 use Rattle.min_sum.specs.MinSum.{Messages, hardBits, start, pass, turn, decoded}
-use Rattle.soft_flip.specs.OneSize.{level}
-use Rattle.soft_flip.proofs.Right.{pass₁, hard₁, ends, ends-late}
+use Rattle.soft_flip.proofs.Right.{Spread, Input, pass₁, hard₁, ends, ends-late}
 
 -- ---- every check has two edges at least
 rowsTest : ℕ → Bool
@@ -80,9 +77,19 @@ module _ (code : ℕ) (tc : TC code) where
       go (inl e) = omega (arith, own-edges v)
       go (inr e) = omega (arith, own-edges v)
 
-  module _ (top k : ℕ) (fits : suc k ≤ top) (w : List ℕ) (bits : Bits w) (long : length w ≡ bitsIn code) (good : Meets code (wordOf w)) (x : ℕ) (hx : x < bitsIn code)
-      (llrs : List ℤ) (llrs-long : length llrs ≡ bitsIn code)
-      (given : (i : ℕ) → i < bitsIn code → getD llrs i (pos 0) ≡ level k (eqb (wordOf (plus w (oneAt (bitsIn code) x)) i) 1)) where
+  spread : (x : ℕ) → x < bitsIn code → Spread (edges code) (checksIn code) (bitsIn code) x
+  spread x h =
+      record {
+        low = h;
+        ranged = edges-ranged code known;
+        two = two;
+        three = three;
+        own = own-edges x;
+        few = λ u l. share-few code tc x h u;
+      }
+
+  module _ (top k : ℕ) (fits : suc k ≤ top) (x : ℕ) (h : x < bitsIn code) (w : List ℕ) (llrs : List ℤ)
+      (input : Input (edges code) (checksIn code) (bitsIn code) k x w llrs) where
     sent : (limit : ℕ) → decoded (whole top) code llrs limit
         ≡ run (turn (whole top) (edges code) (checksIn code) 0 llrs) limit 0 (start (whole top) (edges code) (checksIn code) 0 llrs)
     sent limit =
@@ -91,16 +98,13 @@ module _ (code : ℕ) (tc : TC code) where
     -- one flipped bit: success in pass 1, with the hard bits of w
     pub soft-one : (limit : ℕ) → 2 ≤ limit
         → (s : Messages ℤ) × (decoded (whole top) code llrs limit ≡ end true 1 s) × ((i : ℕ) → i < bitsIn code → hardBits (whole top) (s .marginals) i ≡ wordOf w i)
-    soft-one limit h = (
-      pass₁ top k fits (edges code) (checksIn code) (bitsIn code) (edges-ranged code known) two w bits long good x hx (own-edges x) (λ u l. share-few code tc x hx u) three llrs llrs-long given,
-      sent limit
-          ∙ ends top k fits (edges code) (checksIn code) (bitsIn code) (edges-ranged code known) two w bits long good x hx (own-edges x) (λ u l. share-few code tc x hx u) three llrs llrs-long given limit h,
-      hard₁ top k fits (edges code) (checksIn code) (bitsIn code) (edges-ranged code known) two w bits long good x hx (own-edges x) (λ u l. share-few code tc x hx u) three llrs llrs-long given,
+    soft-one limit two = (
+      pass₁ top k fits (edges code) (checksIn code) (bitsIn code) x (spread x h) w llrs input,
+      sent limit ∙ ends top k fits (edges code) (checksIn code) (bitsIn code) x (spread x h) w llrs input limit two,
+      hard₁ top k fits (edges code) (checksIn code) (bitsIn code) x (spread x h) w llrs input,
     )
 
     -- with a limit of 1 there is no success: pass 0 adds no message
     pub soft-late : decoded (whole top) code llrs 1
         ≡ end false 1 (pass (whole top) (edges code) (checksIn code) 0 llrs (start (whole top) (edges code) (checksIn code) 0 llrs))
-    soft-late =
-        sent 1
-        ∙ ends-late top k fits (edges code) (checksIn code) (bitsIn code) (edges-ranged code known) two w bits long good x hx (own-edges x) (λ u l. share-few code tc x hx u) three llrs llrs-long given
+    soft-late = sent 1 ∙ ends-late top k fits (edges code) (checksIn code) (bitsIn code) x (spread x h) w llrs input
