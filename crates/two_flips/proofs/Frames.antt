@@ -22,7 +22,7 @@ use Rattle.maths.specs.Budget.{End, end}
 use Rattle.maths.proofs.Tests.{both-left, both-right}
 use Rattle.maths.proofs.Lists.{span-length, span-ext}
 use Rattle.maths.proofs.Slices.{span-get}
-use Rattle.maths.proofs.Ones.{delta-low, delta-self, ones-at}
+use Rattle.maths.proofs.Ones.{delta-self, ones-at}
 use Rattle.maths.proofs.Bytes.{bitAt-low, pack-again}
 use Rattle.maths.proofs.Distance.{unequal-low, length-places, places-below, places-flip}
 use Rattle.codes.specs.Codes.{Known, TC, rowOf, bitsIn, checksIn}
@@ -40,9 +40,7 @@ use Rattle.bit_flip.proofs.Votes.{no-bits}
 use Rattle.two_flips.specs.Words.{plus}
 use Rattle.two_flips.specs.Flips.{PairFlips}
 use Rattle.two_flips.proofs.Added.{plus-at, plus-is, endPlus, passes-plus}
-use Rattle.two_flips.proofs.Mends.{Mends, mended, untested, clear-mends}
-use Rattle.two_flips.proofs.Pairs.{pair}
-use Rattle.two_flips.proofs.Theorems.{pair-low, all-clear, pair-mends}
+use Rattle.two_flips.proofs.Theorems.{one-flip, one-flip-late, two-flips}
 
 -- an accepted call that ends after k passes and leaves s
 abbrev pub leaves : ℕ → Bool → ℕ → List ℕ → Outcome
@@ -151,37 +149,25 @@ module _ (code : ℕ) (tc : TC code) (s : List ℕ) (bytes : Bytes s) (long : le
                 ∙ ap (λ (g : ℕ → ℕ). (wordOf word v + g v) % 2) (sym (output-word code tc limit e))
                 ∙ ap (λ (g : ℕ → ℕ). (g v + bitAt (pack (wordOf (ended code tc limit e .state)) (rowOf code .«output_len»)) v) % 2) word-is
 
-      -- errors that go away
-      module _ (k : ℕ) (f : ℕ → ℕ) (low : (v : ℕ) → f v < 2) (differ : (v : ℕ) → v < 8 * length s → bitAt t v ≡ (bitAt s v + f v) % 2)
-          (x : Mends (edges code) (bitsIn code) k f) where
-        -- the passes that restore the frame leave it
-        by-passes : (success : Bool) → passes (edges code) (checksIn code) limit (plus word (span f 0 (bitsIn code))) ≡ end success k word
-            → outcome code t output working limit ≡ leaves code success k s
-        by-passes success ran =
-            let o : rowOf code .«output_len» ≡ length s = omega (arith, whole, roomy code known-code .whole) in
-            outcome-is code tc limit t output working accepted ∙ rw (sum f differ, ran, o, word-is, pack-again s bytes)
-
-        by-mends : k < limit → outcome code t output working limit ≡ leaves code true k s
-        by-mends h =
-            by-passes true
-            (mended (edges code) (checksIn code) (bitsIn code) (edges-ranged code known-code) word word-bits word-long word-good k f low x limit h)
-
-        by-untested : limit ≡ k → outcome code t output working limit ≡ leaves code false k s
-        by-untested h =
-            by-passes false
-            (rw h (untested (edges code) (checksIn code) (bitsIn code) (edges-ranged code known-code) word word-bits word-long word-good k f low x))
+      -- errors after which the passes leave the frame
+      by-passes : (f : ℕ → ℕ) → ((v : ℕ) → v < 8 * length s → bitAt t v ≡ (bitAt s v + f v) % 2) → (success : Bool) (k : ℕ)
+          → passes (edges code) (checksIn code) limit (plus word (span f 0 (bitsIn code))) ≡ end success k word
+          → outcome code t output working limit ≡ leaves code success k s
+      by-passes f differ success k ran =
+          let o : rowOf code .«output_len» ≡ length s = omega (arith, whole, roomy code known-code .whole) in
+          outcome-is code tc limit t output working accepted ∙ rw (sum f differ, ran, o, word-is, pack-again s bytes)
 
       -- one flipped bit
       module _ (one : distance s t ≡ 1) where
         pub one-put-right : 2 ≤ limit → outcome code t output working limit ≡ leaves code true 1 s
         one-put-right h =
             let (x, hx, flip) = one-error one in
-            by-mends 1 (delta x) (delta-low x) flip (clear-mends (edges code) (bitsIn code) x hx (all-clear code tc x hx)) h
+            by-passes (delta x) flip true 1 (one-flip code tc word word-bits word-long word-good x hx limit h)
 
         pub one-seen-late : limit ≡ 1 → outcome code t output working limit ≡ leaves code false 1 s
         one-seen-late h =
             let (x, hx, flip) = one-error one in
-            by-untested 1 (delta x) (delta-low x) flip (clear-mends (edges code) (bitsIn code) x hx (all-clear code tc x hx)) h
+            by-passes (delta x) flip false 1 (rw h (one-flip-late code tc word word-bits word-long word-good x hx))
 
       -- two flipped bits
       pub two-put-right : distance s t ≡ 2 → 4 ≤ limit
@@ -197,6 +183,6 @@ module _ (code : ℕ) (tc : TC code) (s : List ℕ) (bytes : Bytes s) (long : le
               let hx = low-at x (y ∷ []) low in
               let hy = low-at y [] (both-right (ltb x (8 * length s)) (all (λ v. ltb v (8 * length s)) (y ∷ [])) low) in
               let ne : x ≢ y = λ e. omega (arith, once x (omega (arith, whole)), delta-self x, ap (λ (u : ℕ). delta u x) e) in
-              let (k, flips, z) = pair-mends code tc x y hx hy ne in
-              (x, y, k, is, flips, by-mends k (pair x y) (pair-low x y ne) (λ v l. rw (add-zero (delta y v)) at (flip v l)) z (omega (arith, flips .most)))
+              let (k, flips, ran) = two-flips code tc word word-bits word-long word-good x y hx hy ne limit h in
+              (x, y, k, is, flips, by-passes (λ v. delta x v + delta y v) (λ v l. rw (add-zero (delta y v)) at (flip v l)) true k ran)
           go (x ∷ y ∷ u ∷ vs) is len low flip once = absurd (omega arith)

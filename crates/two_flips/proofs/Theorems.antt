@@ -19,7 +19,7 @@ use Rattle.codes.specs.Codes.{Known, TC, tcCodes, bitsIn, checksIn}
 use Rattle.codes.specs.Edges.{Edge, edges}
 use Rattle.codes.specs.Equations.{wordOf, Hold, Meets}
 use Rattle.codes.proofs.Flat.{edges-ranged}
-use Rattle.matrices.specs.Circulants.{circulantOf, circs, edgesOf}
+use Rattle.matrices.specs.Circulants.{Circ, circulantOf, circs, edgesOf}
 use Rattle.matrices.specs.Counts.{count}
 use Rattle.matrices.proofs.Sizes.{checkBlocks, bitBlocks, sizes}
 use Rattle.matrices.proofs.Circulants.{edges-circs}
@@ -38,7 +38,7 @@ use Rattle.two_flips.proofs.Pairs.{pair}
 use Rattle.two_flips.proofs.Tests.{codeTest, blocksTest, tests-hold}
 use Rattle.two_flips.proofs.Blocks.{three-or-five, few, clear, pairs-mend}
 
-pub pair-low : (x y : ℕ) → x ≢ y → (v : ℕ) → pair x y v < 2
+pair-low : (x y : ℕ) → x ≢ y → (v : ℕ) → pair x y v < 2
 pair-low x y ne v = omega (arith, delta-apart x y v ne, delta-swap x v, delta-swap y v)
 
 -- ---- "If a sent frame arrives with exactly one clear bit flipped and the limit is 2 or more, bit flipping must return the sent frame with (true, 1)."
@@ -56,45 +56,44 @@ module _ (code : ℕ) (tc : TC code) where
   abbrev known : Known code
   known = omega arith
 
-  circs-ranged : Ranged (checkBlocks code * circulantOf code) (bitBlocks code * circulantOf code) (edgesOf (circulantOf code) (circs code))
-  circs-ranged =
+  -- what holds of circulants that pass the tests holds of a code's edges
+  of-tested : (P : List Edge → ℕ → ℕ → Type 0)
+      → ((b mb nb : ℕ) → 0 < b → (ks : List Circ) → Ranged (mb * b) (nb * b) (edgesOf b ks) → ((a v : ℕ) → count (edgesOf b ks) a v ≤ 1)
+      → T (blocksTest b nb ks) → P (edgesOf b ks) (mb * b) (nb * b))
+      → P (edges code) (checksIn code) (bitsIn code)
+  of-tested P law =
       let z = sizes code known in
-      rw (← edges-circs code known, z .check-blocks, z .bit-blocks) (edges-ranged code known)
-
-  circs-once : (a v : ℕ) → count (edgesOf (circulantOf code) (circs code)) a v ≤ 1
-  circs-once a v = rw (← edges-circs code known) (once code a v known)
-
-  circs-tested : T (blocksTest (circulantOf code) (bitBlocks code) (circs code))
-  circs-tested = below-at tcCodes codeTest tests-hold code tc
+      of-edges code known (λ es m n k. P es m n)
+      (law (circulantOf code) (checkBlocks code) (bitBlocks code) (z .some) (circs code)
+      (rw (← edges-circs code known, z .check-blocks, z .bit-blocks) (edges-ranged code known))
+      (λ a v. rw (← edges-circs code known) (once code a v known))
+      (below-at tcCodes codeTest tests-hold code tc))
 
   -- every bit has three or five edges, and shares at most one check with any other
   pub share-own : (x : ℕ) → x < bitsIn code → (scoreAt (edges code) (delta x) x ≡ 3) ⊎ (scoreAt (edges code) (delta x) x ≡ 5)
-  share-own x =
-      of-edges code known (λ es m n k. x < n → (scoreAt es (delta x) x ≡ 3) ⊎ (scoreAt es (delta x) x ≡ 5))
-      (three-or-five (circulantOf code) (checkBlocks code) (bitBlocks code) (sizes code known .some) (circs code) circs-ranged circs-once circs-tested x)
+  share-own x = of-tested (λ es m n. x < n → (scoreAt es (delta x) x ≡ 3) ⊎ (scoreAt es (delta x) x ≡ 5)) (λ b mb nb pos ks r o t. three-or-five b mb nb pos ks r o t x)
 
   pub share-few : (x : ℕ) → x < bitsIn code → (u : ℕ) → u ≢ x → scoreAt (edges code) (delta x) u ≤ 1
-  share-few x =
-      of-edges code known (λ es m n k. x < n → (u : ℕ) → u ≢ x → scoreAt es (delta x) u ≤ 1)
-      (few (circulantOf code) (checkBlocks code) (bitBlocks code) (sizes code known .some) (circs code) circs-ranged circs-once circs-tested x)
+  share-few x = of-tested (λ es m n. x < n → (u : ℕ) → u ≢ x → scoreAt es (delta x) u ≤ 1) (λ b mb nb pos ks r o t. few b mb nb pos ks r o t x)
 
   -- "Compute which bits are clear from the tables and list any that are not.": none is not
   pub all-clear : (x : ℕ) → x < bitsIn code → Clear (edges code) (bitsIn code) x
-  all-clear x =
-      of-edges code known (λ es m n k. x < n → Clear es n x)
-      (clear (circulantOf code) (checkBlocks code) (bitBlocks code) (sizes code known .some) (circs code) circs-ranged circs-once circs-tested x)
+  all-clear x = of-tested (λ es m n. x < n → Clear es n x) (λ b mb nb pos ks r o t. clear b mb nb pos ks r o t x)
 
-  pub pair-mends : (x y : ℕ) → x < bitsIn code → y < bitsIn code → x ≢ y
+  pair-mends : (x y : ℕ) → x < bitsIn code → y < bitsIn code → x ≢ y
       → (k : ℕ) × PairFlips (edges code) x y k × Mends (edges code) (bitsIn code) k (pair x y)
   pair-mends x y =
-      of-edges code known (λ es m n k. x < n → y < n → x ≢ y → (k : ℕ) × PairFlips es x y k × Mends es n k (pair x y))
-      (pairs-mend (circulantOf code) (checkBlocks code) (bitBlocks code) (sizes code known .some) (circs code) circs-ranged circs-once circs-tested x y)
+      of-tested (λ es m n. x < n → y < n → x ≢ y → (k : ℕ) × PairFlips es x y k × Mends es n k (pair x y))
+      (λ b mb nb pos ks r o t. pairs-mend b mb nb pos ks r o t x y)
 
   module _ (w : List ℕ) (bits : Bits w) (long : length w ≡ bitsIn code) (good : Meets code (wordOf w)) where
     -- one flipped bit
     pub one-flip : (x : ℕ) → x < bitsIn code → (limit : ℕ) → 2 ≤ limit
         → passes (edges code) (checksIn code) limit (plus w (oneAt (bitsIn code) x)) ≡ end true 1 w
     one-flip x hx = one-right (edges code) (checksIn code) (bitsIn code) (edges-ranged code known) w bits long good x hx (all-clear x hx)
+
+    pub one-flip-late : (x : ℕ) → x < bitsIn code → passes (edges code) (checksIn code) 1 (plus w (oneAt (bitsIn code) x)) ≡ end false 1 w
+    one-flip-late x hx = one-untested (edges code) (checksIn code) (bitsIn code) (edges-ranged code known) w bits long good x hx (all-clear x hx)
 
     -- two flipped bits
     pub two-flips : (x y : ℕ) → x < bitsIn code → y < bitsIn code → x ≢ y → (limit : ℕ) → 4 ≤ limit
