@@ -64,13 +64,13 @@ fn iterations(x: &[usize], y: &[usize]) -> RangeInclusive<usize> {
 
 fn flipped(frame: &[u8], bits: &[usize]) -> Vec<u8> {
     let mut word = frame.to_vec();
-    bits.iter().for_each(|bit| word[bit / 8] ^= 128 >> (bit % 8));
+    bits.iter().for_each(|&bit| flip_bit(&mut word, bit));
     word
 }
 
 /// Confidences of one size.
 fn confident(word: &[u8], size: i8) -> Vec<i8> {
-    (0..word.len() * 8).map(|bit| if word[bit / 8] >> (7 - bit % 8) & 1 == 1 { -size } else { size }).collect()
+    (0..word.len() * 8).map(|i| if bit_at(word, i) { -size } else { size }).collect()
 }
 
 /// Each single bit: both decoders return the frame at iteration 1, and with a limit of 1 they do not claim it.

@@ -50,10 +50,18 @@ pub fn frame(code: LDPCCode, dice: &mut Dice) -> Vec<u8> {
     word
 }
 
+/// Bit i of a byte string.
+pub fn bit_at(word: &[u8], i: usize) -> bool {
+    word[i / 8] >> (7 - i % 8) & 1 == 1
+}
+
+pub fn flip_bit(word: &mut [u8], i: usize) {
+    word[i / 8] ^= 128 >> (i % 8);
+}
+
 pub fn flip(word: &mut [u8], dice: &mut Dice, count: usize) {
     for _ in 0..count {
-        let bit = dice.below(word.len() * 8);
-        word[bit / 8] ^= 128 >> (bit % 8);
+        flip_bit(word, dice.below(word.len() * 8));
     }
 }
 
@@ -96,7 +104,7 @@ pub fn confidences(code: LDPCCode, dice: &mut Dice) -> Vec<i8> {
     let noise = [0, 0, 1, 5, 20, 60][dice.below(6)];
     (0..code.n())
         .map(|i| {
-            let one = word[i / 8] >> (7 - i % 8) & 1 == 1;
+            let one = bit_at(&word, i);
             let wobble = if noise == 0 { 0 } else { dice.below(2 * noise + 1) as i32 - noise as i32 };
             ((if one { -strength } else { strength }) + wobble).clamp(-128, 127) as i8
         })
