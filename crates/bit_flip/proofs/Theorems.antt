@@ -6,7 +6,7 @@ use mathlib.Core.Bool.{Bool, true, false}
 use mathlib.Core.List.{List, _++_}
 use mathlib.Core.Path.{_≡_, refl, sym, subst, _∙_, fun-ext}
 use Prim.Native.Nat.{ℕ, _-_, _*_, _/_, _≤_, _<_}
-use native.Mathlib.Nat.{mod-eq-of-lt}
+use native.Mathlib.Nat.{add-zero, mod-eq-of-lt}
 use native.Mathlib.Decide.{decLt}
 use native.Mathlib.Omega.{arith}
 use borrow.Author.Tests.{eqb-true, eq-eqb, ltb-true, lt-ltb}
@@ -16,7 +16,7 @@ use Rattle.maths.specs.Tests.{pick, both}
 use Rattle.maths.specs.Bits.{bitAt}
 use Rattle.maths.specs.Bytes.{Bytes, pack}
 use Rattle.maths.specs.Lists.{span}
-use Rattle.maths.specs.Budget.{stop, go, run}
+use Rattle.maths.specs.Budget.{stop, go, End, run}
 use Rattle.maths.proofs.Tests.{pick-both}
 use Rattle.maths.proofs.Lists.{span-length}
 use Rattle.maths.proofs.Slices.{span-get, span-padded}
@@ -38,7 +38,7 @@ use Rattle.bit_flip.proofs.Votes.{no-bits, no-limit}
 use Rattle.bit_flip.proofs.Whole.{received-bits, voted-length, filled-bits}
 
 -- ---- bits as bytes: the same word
-pub packed-word : (w : List ℕ) (n : ℕ) → length w ≡ 8 * n → Bits w → bitAt (pack (wordOf w) n) ≡ wordOf w
+packed-word : (w : List ℕ) (n : ℕ) → length w ≡ 8 * n → Bits w → bitAt (pack (wordOf w) n) ≡ wordOf w
 packed-word w n e bits = fun-ext (λ v. at v (decLt v (n * 8)))
   where
     at : (v : ℕ) → Dec (v < n * 8) → bitAt (pack (wordOf w) n) v ≡ wordOf w v
@@ -71,7 +71,7 @@ module _ (es : List Edge) (m : ℕ) where
   passes-success : (limit : ℕ) (w : List ℕ) → passes es m limit w .success ≡ true → holds es m (wordOf (passes es m limit w .state)) ≡ true
   passes-success limit w e = run-success (pass es m) (λ s. holds es m (wordOf s) ≡ true) (λ s t q. stopped s t q .1) limit 0 w e
 
-  pub passes-bits : (limit : ℕ) (w : List ℕ) → Bits w → Bits (passes es m limit w .state)
+  passes-bits : (limit : ℕ) (w : List ℕ) → Bits w → Bits (passes es m limit w .state)
   passes-bits limit w h =
       run-kept (pass es m) Bits (λ s t q b. subst Bits (stopped s t q .0) b) (λ s t q b. subst Bits (sym (gone s t q)) (flipped-bits es s b)) limit 0 w h
 
@@ -166,23 +166,41 @@ received-word s t h = fun-ext (λ v. at v (decLt v t))
     at v (no k) =
         List·getD-eq-default (span (bitAt s) 0 t) 0 (omega (arith, span-length (bitAt s) 0 t)) ∙ sym (bitAt-past s v (omega arith))
 
+-- no bit of a TC code is erased: a call leaves what the passes make of the word received
+module _ (code : ℕ) (tc : TC code) (limit : ℕ) (input : List ℕ) where
+  abbrev pub ended : End (List ℕ)
+  ended = passes (edges code) (checksIn code) limit (received code input)
+
+  pub outcome-is : (output working : List ℕ) → answerOf code input output working ≡ 0
+      → outcome code input output working limit
+      ≡ left (ending (ended .success) (ended .turns)) (pack (wordOf (ended .state)) (rowOf code .«output_len»)) (replicate (bitsIn code) 0)
+  unfolding decoded decodeWord
+  outcome-is output working e =
+      let f = sym (no-bits (punctured code) (edges code) (rowOf code .«punctured_bits») limit (received code input) (tc-sent code tc)) in
+      is-accepted code input output working limit e ∙ rw (f, add-zero (ended .turns))
+
+  -- the bits of that output
+  pub output-word : bitAt (pack (wordOf (ended .state)) (rowOf code .«output_len»)) ≡ wordOf (ended .state)
+  output-word =
+      packed-word (ended .state) (rowOf code .«output_len»)
+      (passes-length (edges code) (checksIn code) limit (received code input) ∙ span-length (bitAt input) 0 (bitsIn code) ∙ sym (roomy code (omega arith) .whole))
+      (passes-bits (edges code) (checksIn code) limit (received code input) (received-bits input (bitsIn code) refl))
+
 -- a TC word that meets the equations comes back with (true, 0), where maxiters is at least 1
 pub clean : (code : ℕ) (input output working : List ℕ) (limit : ℕ) → TC code → answerOf code input output working ≡ 0 → Bytes input
     → Meets code (bitAt input) → 1 ≤ limit → outcome code input output working limit ≡ left (ending true 0) input (replicate (bitsIn code) 0)
-unfolding decoded decodeWord
 clean code input output working limit tc e bytes meets h =
     let k = accepted-known code input output working limit e in
     let i = accepted-input code input output working limit e in
     let r = roomy code k in
     let z = tc-sent code tc in
-    let f = sym (no-bits (punctured code) (edges code) (rowOf code .«punctured_bits») limit (received code input) z) in
     let l : 8 * length input ≡ bitsIn code = omega (arith, r .sent) in
     let o : rowOf code .«output_len» ≡ length input = omega (arith, r .whole) in
     let w : wordOf (received code input) ≡ bitAt input = received-word input (bitsIn code) (omega arith) in
     let p : pass (edges code) (checksIn code) (received code input) ≡ stop (received code input) =
     clean-pass (edges code) (checksIn code) (received code input) (rw w (hold-holds (edges code) (checksIn code) (bitAt input) meets)) in
-    is-accepted code input output working limit e
-    ∙ rw (f, run-at-once (pass (edges code) (checksIn code)) limit (received code input) (received code input) h p, o, w, pack-again input bytes)
+    outcome-is code tc limit input output working e
+    ∙ rw (run-at-once (pass (edges code) (checksIn code)) limit (received code input) (received code input) h p, o, w, pack-again input bytes)
 
 -- with maxiters 0: (false, 0) and the input followed by zeros, whatever the input
 pub limit-none : (code : ℕ) (input output working : List ℕ) → answerOf code input output working ≡ 0 → Bytes input

@@ -80,8 +80,8 @@ Ranged m n es = T (all (inRange m n) es)
 
 module _ (m n : ℕ) where
   -- the first edge's check and bit, and the other edges
-  ranged : (e : Edge) (es : List Edge) → Ranged m n (e ∷ es) → (e .check < m) × (e .bit < n) × Ranged m n es
-  ranged e es r =
+  pub ranged-first : (e : Edge) (es : List Edge) → Ranged m n (e ∷ es) → (e .check < m) × (e .bit < n) × Ranged m n es
+  ranged-first e es r =
       let h = both-left (inRange m n e) (all (inRange m n) es) r in (
         ltb→lt (e .check) m (both-left (ltb (e .check) m) (ltb (e .bit) n) h),
         ltb→lt (e .bit) n (both-right (ltb (e .check) m) (ltb (e .bit) n) h),
@@ -93,7 +93,7 @@ module _ (m n : ℕ) where
       → (a : ℕ) → par es w a % 2 ≡ par es w′ a % 2
   par-below [] r w w′ h a = refl
   par-below (e ∷ es) r w w′ h a =
-      let z = ranged e es r in
+      let z = ranged-first e es r in
       go (eqb (e .check) a) (par-below es (z .2) w w′ h a) (h (e .bit) (z .1))
     where
       go : (x : Bool) → par es w a % 2 ≡ par es w′ a % 2 → w (e .bit) % 2 ≡ w′ (e .bit) % 2
@@ -104,14 +104,14 @@ module _ (m n : ℕ) where
   bits-below : (es : List Edge) → Ranged m n es → T (all (λ v. ltb v n) (map bitOf es))
   bits-below [] r = tt
   bits-below (e ∷ es) r =
-      let z = ranged e es r in
+      let z = ranged-first e es r in
       rw (lt-ltb (e .bit) n (z .1)) (bits-below es (z .2))
 
   -- the sum of all equations is the sum over all edges
   sum-checks : (es : List Edge) → Ranged m n es → (w : ℕ → ℕ) → sumN m (par es w) ≡ sumL (map bitOf es) w
   sum-checks [] r w = sumN-zero m
   sum-checks (e ∷ es) r w =
-      let z = ranged e es r in
+      let z = ranged-first e es r in
       sumN-ext m (par (e ∷ es) w) (λ a. w (e .bit) * delta a (e .check) + par es w a) (λ a h. sum-ends checkOf bitOf e es w a)
       ∙ sumN-add m (λ a. w (e .bit) * delta a (e .check)) (par es w)
       ∙ ap₂ (λ (x y : ℕ). x + y) (sum-delta (λ a. w (e .bit)) (e .check) m (z .0)) (sum-checks es (z .2) w)

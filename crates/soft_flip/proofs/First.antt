@@ -7,17 +7,17 @@ use native.Mathlib.Nat.{zero-add, add-zero}
 use native.Mathlib.Decide.{ℕ-discrete}
 use native.Mathlib.Omega.{arith}
 use borrow.Author.Tests.{eq-eqb, ne-eqb}
-use lib.Dec.{T, eqb, ltb, ltb→lt}
+use lib.Dec.{T, eqb}
 use lib.IntN.{ℤ, pos}
 use lib.ListN.{length, getD, set, length-set}
 use lib.Seq.{getD-set-same, getD-set-other}
 use Rattle.maths.specs.Tests.{pick, all}
 use Rattle.maths.specs.Lists.{fold}
 use Rattle.maths.specs.Sums.{sumL}
-use Rattle.maths.proofs.Tests.{both-left, both-right}
 use Rattle.maths.proofs.Stores.{set-under}
 use Rattle.codes.specs.Edges.{Edge, inRange}
 use Rattle.codes.specs.Equations.{bitsOf, par}
+use Rattle.matrices.proofs.Edges.{ranged-first}
 use Rattle.min_sum.specs.Soft.{satAdd, size, below0}
 use Rattle.min_sum.specs.Confidence.{Confidence, whole}
 use Rattle.min_sum.specs.MinSum.{Link, link, numbered, Messages, at, newU, newV, newFirst, newSecond, addMessage, takeMessage}
@@ -118,17 +118,11 @@ module _ (top k : ℕ) (fits : suc k ≤ top) where
         ∙ ap (λ (c : Bool). taken j e (level k b) (pos (suc k)) c s) (level-hard k b)
 
     module _ (j : ℕ) (e : Edge) (es : List Edge) (s : Messages ℤ) (q : Ready j (e ∷ es) s) where
-      in-range : T (inRange m n e)
-      in-range = both-left (inRange m n e) (all (inRange m n) es) (q .ranged)
-
-      check-low : e .check < m
-      check-low = ltb→lt (e .check) m (both-left (ltb (e .check) m) (ltb (e .bit) n) in-range)
-
-      bit-low : e .bit < n
-      bit-low = ltb→lt (e .bit) n (both-right (ltb (e .check) m) (ltb (e .bit) n) in-range)
+      within : (e .check < m) × (e .bit < n) × T (all (inRange m n) es)
+      within = ranged-first m n e es (q .ranged)
 
       new-level : newV o (at o (s .marginals) (e .bit)) (at o (s .u) j) (at o (s .v) j) ≡ level k (r (e .bit))
-      new-level = rw (q .marginals (e .bit) bit-low, q .u j, q .v j (omega arith)) (first-v top k fits (r (e .bit)))
+      new-level = rw (q .marginals (e .bit) (within .1), q .u j, q .v j (omega arith)) (first-v top k fits (r (e .bit)))
 
       take-next : takeMessage o (link j (e .check) (e .bit)) s ≡ next j e (r (e .bit)) s
       unfolding takeMessage
@@ -143,7 +137,7 @@ module _ (top k : ℕ) (fits : suc k ≤ top) where
         firsts = length-set (s .first) (e .check) _ ∙ q .firsts;
         seconds = length-set (s .second) (e .check) _ ∙ q .seconds;
         negatives = length-set (s .negative) (e .check) _ ∙ q .negatives;
-        ranged = both-right (inRange m n e) (all (inRange m n) es) (q .ranged);
+        ranged = within .2;
       }
 
     abbrev last : ℕ → List Edge → Messages ℤ → Messages ℤ
@@ -178,57 +172,81 @@ module _ (top k : ℕ) (fits : suc k ≤ top) where
         rw (last-next j e es s q)
         (early (suc j) es s′ q′ j (omega arith) ∙ getD-set-same (s .v) j (level k (r (e .bit))) (pos 0) low, held (suc j) es s′ q′)
 
-    -- the minima
+    -- ---- what a check holds: a step for each of its bits, in order
     module _ (a : ℕ) where
-      pub minima : (j : ℕ) (es : List Edge) (s : Messages ℤ) → Ready j es s → (c : ℕ) → at o (s .first) a ≡ firstOf top k fits c → at o (s .second) a ≡ secondOf top k fits c
-          → (at o (last j es s .first) a ≡ firstOf top k fits (length (bitsOf es a) + c)) × (at o (last j es s .second) a ≡ secondOf top k fits (length (bitsOf es a) + c))
-      minima j [] s q c f g = rw (last-none j s, zero-add c) (f, g)
-      minima j (e ∷ es) s q c f g =
-          let s′ = next j e (r (e .bit)) s in
-          rw (last-next j e es s q)
-          (go (ℕ-discrete (e .check) a) (minima (suc j) es s′ (ready-next j e es s q)))
+      stepped : {X : Type 0} (part : Messages ℤ → X) (step : Bool → X → X)
+          → ((j : ℕ) (e : Edge) (es : List Edge) (s : Messages ℤ) → Ready j (e ∷ es) s → e .check ≡ a → part (next j e (r (e .bit)) s) ≡ step (r (e .bit)) (part s))
+          → ((j : ℕ) (e : Edge) (b : Bool) (s : Messages ℤ) → (a ≡ e .check → ⊥) → part (next j e b s) ≡ part s)
+          → (j : ℕ) (es : List Edge) (s : Messages ℤ) → Ready j es s → part (last j es s) ≡ fold (λ v x. step (r v) x) (bitsOf es a) (part s)
+      unfolding fold
+      stepped part step here there j [] s q = ap part (last-none j s)
+      stepped part step here there j (e ∷ es) s q =
+          ap part (last-next j e es s q)
+          ∙ stepped part step here there (suc j) es (next j e (r (e .bit)) s) (ready-next j e es s q)
+          ∙ go (ℕ-discrete (e .check) a)
         where
-          s″ : Messages ℤ
-          s″ = next j e (r (e .bit)) s
-
           go : Dec (e .check ≡ a)
-              → ((c : ℕ) → at o (s″ .first) a ≡ firstOf top k fits c → at o (s″ .second) a ≡ secondOf top k fits c
-              → (at o (last (suc j) es s″ .first) a ≡ firstOf top k fits (length (bitsOf es a) + c)) × (at o (last (suc j) es s″ .second) a ≡ secondOf top k fits (length (bitsOf es a) + c)))
-              → (at o (last (suc j) es s″ .first) a ≡ firstOf top k fits (length (pick (eqb (e .check) a) (e .bit ∷ bitsOf es a) (bitsOf es a)) + c))
-              × (at o (last (suc j) es s″ .second) a ≡ secondOf top k fits (length (pick (eqb (e .check) a) (e .bit ∷ bitsOf es a) (bitsOf es a)) + c))
-          go (no p) ih =
-              rw (ne-eqb (e .check) a p)
-              (ih c (getD-set-other (s .first) (e .check) a _ (pos 0) (λ x. p (sym x)) ∙ f) (getD-set-other (s .second) (e .check) a _ (pos 0) (λ x. p (sym x)) ∙ g))
-          go (yes p) ih =
-              let lf : e .check < length (s .first) = omega (arith, check-low j e es s q, q .firsts) in
-              let lg : e .check < length (s .second) = omega (arith, check-low j e es s q, q .seconds) in
-              let f′ : at o (s .first) (e .check) ≡ firstOf top k fits c = rw p f in
-              let g′ : at o (s .second) (e .check) ≡ secondOf top k fits c = rw p g in
-              let n′ : suc (length (bitsOf es a)) + c ≡ length (bitsOf es a) + suc c = omega arith in
-              rw (eq-eqb (e .check) a p, n′)
-              (ih (suc c)
-              (rw (← p) (getD-set-same (s .first) (e .check) _ (pos 0) lf ∙ rw f′ (first-step top k fits c)))
-              (rw (← p) (getD-set-same (s .second) (e .check) _ (pos 0) lg ∙ rw (f′, g′) (second-step top k fits c))))
+              → fold (λ v x. step (r v) x) (bitsOf es a) (part (next j e (r (e .bit)) s))
+              ≡ fold (λ v x. step (r v) x) (pick (eqb (e .check) a) (e .bit ∷ bitsOf es a) (bitsOf es a)) (part s)
+          go (yes p) = rw (eq-eqb (e .check) a p) (ap (fold (λ v x. step (r v) x) (bitsOf es a)) (here j e es s q p))
+          go (no p) = rw (ne-eqb (e .check) a p) (ap (fold (λ v x. step (r v) x) (bitsOf es a)) (there j e (r (e .bit)) s (λ x. p (sym x))))
 
-      -- the sign product
-      pub negative : (j : ℕ) (es : List Edge) (s : Messages ℤ) → Ready j es s → (p : ℕ) → getD (s .negative) a false ≡ oddly p
-          → getD (last j es s .negative) a false ≡ oddly (p + par es (ones r) a)
-      negative j [] s q p f = rw (last-none j s, add-zero p) f
-      negative j (e ∷ es) s q p f =
-          let s′ = next j e (r (e .bit)) s in
-          rw (last-next j e es s q)
-          (go (ℕ-discrete (e .check) a) (negative (suc j) es s′ (ready-next j e es s q)))
+      -- the minima, by the number of its bits
+      abbrev held-by : Messages ℤ → ℤ × ℤ
+      held-by s = (at o (s .first) a, at o (s .second) a)
+
+      abbrev lowered : Bool → ℤ × ℤ → ℤ × ℤ
+      lowered b (x, y) = (newFirst o (pos (suc k)) x, newSecond o (pos (suc k)) x y)
+
+      lowered-all : (vs : List ℕ) (c : ℕ) → fold (λ v. lowered (r v)) vs (firstOf top k fits c, secondOf top k fits c)
+          ≡ (firstOf top k fits (length vs + c), secondOf top k fits (length vs + c))
+      unfolding fold
+      lowered-all [] c = rw (zero-add c)
+      lowered-all (v ∷ vs) c =
+          let e : suc (length vs) + c ≡ length vs + suc c = omega arith in
+          rw (first-step top k fits c, second-step top k fits c, e) (lowered-all vs (suc c))
+
+      pub minima : (j : ℕ) (es : List Edge) (s : Messages ℤ) → Ready j es s → at o (s .first) a ≡ firstOf top k fits 0 → at o (s .second) a ≡ secondOf top k fits 0
+          → let c = length (bitsOf es a) in (at o (last j es s .first) a ≡ firstOf top k fits c) × (at o (last j es s .second) a ≡ secondOf top k fits c)
+      minima j es s q f g =
+          let c = length (bitsOf es a) in
+          let z : c + 0 ≡ c = add-zero c in
+          let all : _≡_ {A = ℤ × ℤ} (fold (λ v. lowered (r v)) (bitsOf es a) (held-by s)) (firstOf top k fits c, secondOf top k fits c) =
+          rw (f, g) (rw z at (lowered-all (bitsOf es a) 0)) in
+          let both = stepped held-by lowered here there j es s q ∙ all in
+          (ap (λ (z : ℤ × ℤ). z .0) both, ap (λ (z : ℤ × ℤ). z .1) both)
         where
-          s″ : Messages ℤ
-          s″ = next j e (r (e .bit)) s
+          here : (j : ℕ) (e : Edge) (es : List Edge) (s : Messages ℤ) → Ready j (e ∷ es) s → e .check ≡ a
+              → held-by (next j e (r (e .bit)) s) ≡ lowered (r (e .bit)) (held-by s)
+          here j e es s q p =
+              let x = newFirst o (pos (suc k)) (at o (s .first) (e .check)) in
+              let y = newSecond o (pos (suc k)) (at o (s .first) (e .check)) (at o (s .second) (e .check)) in
+              let f : at o (set (s .first) (e .check) x) (e .check) ≡ x = getD-set-same (s .first) (e .check) x (pos 0) (omega (arith, within j e es s q, q .firsts)) in
+              let g : at o (set (s .second) (e .check) y) (e .check) ≡ y = getD-set-same (s .second) (e .check) y (pos 0) (omega (arith, within j e es s q, q .seconds)) in
+              rw (← p, f, g)
 
-          go : Dec (e .check ≡ a)
-              → ((p : ℕ) → getD (s″ .negative) a false ≡ oddly p → getD (last (suc j) es s″ .negative) a false ≡ oddly (p + par es (ones r) a))
-              → getD (last (suc j) es s″ .negative) a false ≡ oddly (p + sumL (pick (eqb (e .check) a) (e .bit ∷ bitsOf es a) (bitsOf es a)) (ones r))
-          go (no x) ih = rw (ne-eqb (e .check) a x) (ih p (getD-set-other (s .negative) (e .check) a _ false (λ y. x (sym y)) ∙ f))
-          go (yes x) ih =
-              let low : e .check < length (s .negative) = omega (arith, check-low j e es s q, q .negatives) in
-              let f′ : getD (s .negative) (e .check) false ≡ oddly p = rw x f in
-              let n′ : p + (ones r (e .bit) + par es (ones r) a) ≡ p + ones r (e .bit) + par es (ones r) a = omega arith in
-              rw (eq-eqb (e .check) a x, n′)
-              (ih (p + ones r (e .bit)) (rw (← x) (getD-set-same (s .negative) (e .check) _ false low ∙ rw f′ (odd-more (r (e .bit)) p))))
+          there : (j : ℕ) (e : Edge) (b : Bool) (s : Messages ℤ) → (a ≡ e .check → ⊥) → held-by (next j e b s) ≡ held-by s
+          there j e b s ne = rw (getD-set-other (s .first) (e .check) a _ (pos 0) ne, getD-set-other (s .second) (e .check) a _ (pos 0) ne)
+
+      -- the sign product, by their sum
+      abbrev flipIf : Bool → Bool → Bool
+      flipIf b x = pick b (not x) x
+
+      flipIf-all : (vs : List ℕ) (p : ℕ) → fold (λ v. flipIf (r v)) vs (oddly p) ≡ oddly (p + sumL vs (ones r))
+      unfolding fold
+      flipIf-all [] p = rw (add-zero p)
+      flipIf-all (v ∷ vs) p =
+          let e : p + (ones r v + sumL vs (ones r)) ≡ p + ones r v + sumL vs (ones r) = omega arith in
+          rw (odd-more (r v) p, e) (flipIf-all vs (p + ones r v))
+
+      pub negative : (j : ℕ) (es : List Edge) (s : Messages ℤ) → Ready j es s → getD (s .negative) a false ≡ false
+          → getD (last j es s .negative) a false ≡ oddly (par es (ones r) a)
+      negative j es s q f =
+          stepped (λ t. getD (t .negative) a false) flipIf here (λ j e b s ne. getD-set-other (s .negative) (e .check) a _ false ne) j es s q
+          ∙ rw f (flipIf-all (bitsOf es a) 0 ∙ rw (zero-add (par es (ones r) a)))
+        where
+          here : (j : ℕ) (e : Edge) (es : List Edge) (s : Messages ℤ) → Ready j (e ∷ es) s → e .check ≡ a
+              → getD (next j e (r (e .bit)) s .negative) a false ≡ flipIf (r (e .bit)) (getD (s .negative) a false)
+          here j e es s q p =
+              let x = flipIf (r (e .bit)) (getD (s .negative) (e .check) false) in
+              rw (← p) (getD-set-same (s .negative) (e .check) x false (omega (arith, within j e es s q, q .negatives)))

@@ -2,7 +2,7 @@
 --     one-put-right    with success at iteration 1; one-seen-late with a limit of 1
 --     llrs-one-size    what `hard_to_llrs` makes is of one size
 use mathlib.Core.Bool.{Bool, true, false}
-use mathlib.Core.List.{List, [], _++_, append-nil}
+use mathlib.Core.List.{List}
 use mathlib.Core.Path.{_≡_, refl, sym, ap, _∙_, fun-ext}
 use Prim.Native.Nat.{ℕ, suc, _+_, _*_, _/_, _%_, _≤_, _<_}
 use native.Mathlib.Decide.{decLt}
@@ -33,11 +33,12 @@ use Rattle.min_sum.specs.MinSum.{Messages, hardBits, start, pass, decoded}
 use Rattle.min_sum.specs.Hard.{toHard, toLlrs}
 use Rattle.min_sum.specs.Outcomes.{left, decodeAnswer, finishedAs, decodeOutcome}
 use Rattle.min_sum.proofs.Answers.{decode-lent}
-use Rattle.min_sum.proofs.Marginals.{first-hard, pass-length}
+use Rattle.min_sum.proofs.Marginals.{pass-length}
 use Rattle.min_sum.proofs.Packed.{hard-bit}
-use Rattle.min_sum.proofs.Success.{sized-state, accepted-is, steady}
+use Rattle.min_sum.proofs.Success.{sized-state, accepted-is}
 use Rattle.soft_flip.specs.OneSize.{level, OneSize}
 use Rattle.soft_flip.proofs.Levels.{level-hard}
+use Rattle.soft_flip.proofs.Second.{first-bits}
 use Rattle.soft_flip.proofs.Right.{Input}
 use Rattle.soft_flip.proofs.Theorems.{soft-one, soft-late}
 
@@ -149,15 +150,11 @@ module _ (code : ℕ) (tc : TC code) (s : List ℕ) (bytes : Bytes s) (long : le
   first : List ℤ
   first = pass o (edges code) (checksIn code) 0 llrs (start o (edges code) (checksIn code) 0 llrs) .marginals
 
-  first-bits : (i : ℕ) → hardBits o first i ≡ hardBits o (llrs ++ []) i
-  unfolding first
-  first-bits i = ap (λ (b : Bool). pick b 1 0) (first-hard o (steady top) (edges code) (checksIn code) 0 llrs i)
-
   first-same : toHard o first ≡ toHard o llrs
   unfolding first
   first-same =
       let e : length first ≡ length llrs = pass-length o (edges code) (checksIn code) 0 llrs (start o (edges code) (checksIn code) 0 llrs) ∙ omega arith in
-      rw (e, fun-ext first-bits, append-nil llrs)
+      rw (e, fun-ext (first-bits top (edges code) (checksIn code) llrs))
 
   pub one-seen-late : decodeOutcome o code llrs output working signs 1
       ≡ left (ending false 1) (toHard o llrs) (replicate (length working) (pos 0)) (replicate (length signs) 0)

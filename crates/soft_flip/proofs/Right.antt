@@ -34,7 +34,7 @@ use Rattle.soft_flip.specs.OneSize.{level}
 use Rattle.soft_flip.proofs.Saturated.{total, signs, tested, stays, turns}
 use Rattle.soft_flip.proofs.Levels.{level-hard}
 use Rattle.soft_flip.proofs.First.{ones, oddly}
-use Rattle.soft_flip.proofs.Second.{first-marginals, second-marginals}
+use Rattle.soft_flip.proofs.Second.{first-bits, second-marginals}
 
 not-bit : (b : Bool) → pick (not b) 1 0 + pick b 1 0 ≡ 1
 not-bit true = refl
@@ -110,7 +110,7 @@ module _ (top k : ℕ) (fits : suc k ≤ top) (es : List Edge) (m n x : ℕ) (sp
 
   -- ---- pass 0 goes on
   hard₀ : (i : ℕ) → i < n → hardBits o (pass₀ .marginals) i ≡ ones r i
-  hard₀ i h = rw (first-marginals top k fits es m n (spread .ranged) (spread .two) llrs (input .llrs-long) r (input .given) i h, level-hard k (r i))
+  hard₀ i h = first-bits top es m llrs i ∙ rw (input .given i h, level-hard k (r i))
 
   broken : holds es m (ones r) ≡ false
   broken = go (holds es m (ones r)) refl

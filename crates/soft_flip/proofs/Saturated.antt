@@ -158,8 +158,8 @@ module _ (odd : ℕ → Bool) where
   module _ (top k : ℕ) (fits : suc k ≤ top) (cs : List ℕ) (three : 3 ≤ length cs) where
     -- at most one of the others is turned: the bit stays
     pub stays : (b : Bool) → tested odd cs ≤ 1 → below0 (total top k (signs odd b cs) (level k b)) ≡ b
-    stays false h = kept-up top k fits (signs odd false cs) (omega (arith, counts false cs .0))
     stays true h = kept-down top k fits (signs odd true cs) (omega (arith, counts true cs .0)) (omega (arith, counts true cs .0, counts true cs .1))
+    stays false h = kept-up top k fits (signs odd false cs) (omega (arith, counts false cs .0))
 
     -- all others are turned: so is the bit
     pub turns : (b : Bool) → tested odd cs ≡ length cs → below0 (total top k (signs odd b cs) (level k b)) ≡ not b

@@ -1,25 +1,25 @@
 -- Pass 1 on confidences of one size: each marginal is the sum of the confidence given and of its messages. Assumes nothing.
 use mathlib.Core.Bool.{Bool, false, not}
-use mathlib.Core.List.{List, [], _∷_, _++_}
+use mathlib.Core.List.{List, [], _∷_, _++_, append-nil}
 use mathlib.Core.Path.{_≡_, refl, sym, ap, _∙_}
-use Prim.Native.Nat.{ℕ, zero, suc, _+_, _≤_, _<_}
-use native.Mathlib.Nat.{zero-add}
+use Prim.Native.Nat.{ℕ, zero, suc, _≤_, _<_}
 use native.Mathlib.Decide.{ℕ-discrete, decLt}
 use native.Mathlib.Omega.{arith}
 use borrow.Author.Tests.{eq-eqb, ne-eqb}
-use lib.Dec.{T, eqb, ltb, ltb→lt}
+use lib.Dec.{T, eqb}
 use lib.IntN.{ℤ, pos}
 use lib.ListN.{length, getD, set, length-set, length-append, length-replicate, getD-replicate, List·getD-eq-default, List·getD-append}
 use lib.Seq.{getD-set-same, getD-set-other}
 use Rattle.maths.specs.Tests.{pick, all}
 use Rattle.maths.specs.Lists.{fold}
-use Rattle.maths.proofs.Tests.{both-left, both-right}
 use Rattle.codes.specs.Edges.{Edge, inRange}
 use Rattle.codes.specs.Equations.{bitsOf, checksOf, par}
+use Rattle.matrices.proofs.Edges.{ranged-first}
 use Rattle.min_sum.specs.Soft.{satAdd}
 use Rattle.min_sum.specs.Confidence.{Confidence, whole}
-use Rattle.min_sum.specs.MinSum.{link, numbered, Messages, at, newU, addMessage, restarted, renewed, start, pass}
-use Rattle.min_sum.proofs.Marginals.{replicate-at, start-quiet, pass-marginals}
+use Rattle.min_sum.specs.MinSum.{link, numbered, Messages, at, hardBits, newU, addMessage, restarted, renewed, start, pass}
+use Rattle.min_sum.proofs.Marginals.{replicate-at, start-quiet, pass-marginals, first-hard}
+use Rattle.min_sum.proofs.Success.{steady}
 use Rattle.soft_flip.specs.OneSize.{level}
 use Rattle.soft_flip.proofs.Saturated.{total, signs}
 use Rattle.soft_flip.proofs.Levels.{level-add, zero-add as zero-sum, second-u, firstOf, secondOf}
@@ -40,14 +40,8 @@ module _ (top k : ℕ) (fits : suc k ≤ top) where
       ranged : T (all (inRange m n) es)
 
     module _ (j : ℕ) (e : Edge) (es : List Edge) (s : Messages ℤ) (q : Heard j (e ∷ es) s) where
-      in-range : T (inRange m n e)
-      in-range = both-left (inRange m n e) (all (inRange m n) es) (q .ranged)
-
-      check-low : e .check < m
-      check-low = ltb→lt (e .check) m (both-left (ltb (e .check) m) (ltb (e .bit) n) in-range)
-
-      bit-low : e .bit < n
-      bit-low = ltb→lt (e .bit) n (both-right (ltb (e .check) m) (ltb (e .bit) n) in-range)
+      within : (e .check < m) × (e .bit < n) × T (all (inRange m n) es)
+      within = ranged-first m n e es (q .ranged)
 
       abbrev message : ℤ
       message = newU o (at o (s .v) j) (at o (s .first) (e .check)) (at o (s .second) (e .check)) (getD (s .negative) (e .check) false)
@@ -57,7 +51,7 @@ module _ (top k : ℕ) (fits : suc k ≤ top) where
 
       message-is : message ≡ level k sign
       message-is =
-          rw (q .held .0, q .first (e .check) check-low, q .second (e .check) check-low, q .negative (e .check) check-low)
+          rw (q .held .0, q .first (e .check) (within .0), q .second (e .check) (within .0), q .negative (e .check) (within .0))
           (second-u top k fits (r (e .bit)) (odd (e .check)))
 
       abbrev after : Messages ℤ
@@ -75,7 +69,7 @@ module _ (top k : ℕ) (fits : suc k ≤ top) where
         second = q .second;
         negative = q .negative;
         long = length-set (s .marginals) (e .bit) _ ∙ q .long;
-        ranged = both-right (inRange m n e) (all (inRange m n) es) (q .ranged);
+        ranged = within .2;
       }
 
     summed : (i : ℕ) (j : ℕ) (es : List Edge) (s : Messages ℤ) → Heard j es s
@@ -91,7 +85,7 @@ module _ (top k : ℕ) (fits : suc k ≤ top) where
             ≡ total top k (signs odd (r i) (pick (eqb (e .bit) i) (e .check ∷ checksOf es i) (checksOf es i))) (at o (s .marginals) i)
         go (no x) = rw (ne-eqb (e .bit) i x, getD-set-other (s .marginals) (e .bit) i (satAdd top (at o (s .marginals) (e .bit)) (level k (sign j e es s q))) (pos 0) (λ y. x (sym y)))
         go (yes x) =
-            let low : e .bit < length (s .marginals) = omega (arith, bit-low j e es s q, q .long) in
+            let low : e .bit < length (s .marginals) = omega (arith, within j e es s q, q .long) in
             rw (eq-eqb (e .bit) i x, ← x, getD-set-same (s .marginals) (e .bit) (satAdd top (at o (s .marginals) (e .bit)) (level k (sign j e es s q))) (pos 0) low)
 
   -- ---- pass 0 and then pass 1
@@ -156,8 +150,8 @@ module _ (top k : ℕ) (fits : suc k ≤ top) where
     least : (a : ℕ) → a < m → (at o (pass₀ .first) a ≡ pos (suc k)) × (at o (pass₀ .second) a ≡ pos (suc k))
     unfolding pass renewed
     least a h =
-        let x = minima top k fits m n r a 0 es (renewed o m added) ready 0 (getD-replicate m a (pos top) (pos 0) h) (getD-replicate m a (pos top) (pos 0) h) in
-        let y = first-two (length (bitsOf es a) + 0) (omega (arith, two a h)) in
+        let x = minima top k fits m n r a 0 es (renewed o m added) ready (getD-replicate m a (pos top) (pos 0) h) (getD-replicate m a (pos top) (pos 0) h) in
+        let y = first-two (length (bitsOf es a)) (two a h) in
         (x .0 ∙ y .0, x .1 ∙ y .1)
 
     heard : Heard m n r odd 0 es (restarted o llrs 0 pass₀)
@@ -166,7 +160,7 @@ module _ (top k : ℕ) (fits : suc k ≤ top) where
       held = held top k fits m n r 0 es (renewed o m added) ready;
       first = λ a h. least a h .0;
       second = λ a h. least a h .1;
-      negative = λ a h. negative top k fits m n r a 0 es (renewed o m added) ready 0 (getD-replicate m a false false h) ∙ ap oddly (zero-add (par es (ones r) a));
+      negative = λ a h. negative top k fits m n r a 0 es (renewed o m added) ready (getD-replicate m a false false h);
       long = whole-long;
       ranged = ranged;
     }
@@ -180,7 +174,8 @@ module _ (top k : ℕ) (fits : suc k ≤ top) where
         ∙ summed m n r odd i 0 es (restarted o llrs 0 pass₀) heard
         ∙ ap (total top k (signs odd (r i) (checksOf es i))) (whole-given i h)
 
-    -- the marginals of pass 0 are those given
-    pub first-marginals : (i : ℕ) → i < n → at o (pass₀ .marginals) i ≡ level k (r i)
-    first-marginals i h =
-        ap (λ (xs : List ℤ). at o xs i) (pass-marginals o es m 0 llrs (start o es m 0 llrs)) ∙ added-still .marginals i ∙ whole-given i h
+-- the hard bits of pass 0 are those of the LLRs
+pub first-bits : (top : ℕ) (es : List Edge) (m : ℕ) (llrs : List ℤ) (i : ℕ)
+    → hardBits (whole top) (pass (whole top) es m 0 llrs (start (whole top) es m 0 llrs) .marginals) i ≡ hardBits (whole top) llrs i
+first-bits top es m llrs i =
+    ap (λ (b : Bool). pick b 1 0) (first-hard (whole top) (steady top) es m 0 llrs i) ∙ ap (λ (xs : List ℤ). hardBits (whole top) xs i) (append-nil llrs)

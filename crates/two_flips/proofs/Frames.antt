@@ -33,10 +33,9 @@ use Rattle.codes.proofs.Flat.{edges-ranged}
 use Rattle.report.specs.Report.{ending}
 use Rattle.bit_flip.specs.Flip.{passes}
 use Rattle.bit_flip.specs.Steps.{Bits}
-use Rattle.bit_flip.specs.Outcome.{Outcome, left, decodeWord, received, punctured, decoded, outcome}
+use Rattle.bit_flip.specs.Outcome.{Outcome, left, received, outcome}
 use Rattle.bit_flip.proofs.Scores.{span-bits}
-use Rattle.bit_flip.proofs.Theorems.{packed-word, passes-bits, passes-length, answerOf, is-accepted, received-word}
-use Rattle.bit_flip.proofs.Votes.{no-bits}
+use Rattle.bit_flip.proofs.Theorems.{passes-length, answerOf, received-word, ended, outcome-is, output-word}
 use Rattle.two_flips.specs.Words.{plus}
 use Rattle.two_flips.specs.Flips.{PairFlips}
 use Rattle.two_flips.proofs.Added.{plus-at, plus-is, endPlus, passes-plus}
@@ -45,25 +44,6 @@ use Rattle.two_flips.proofs.Theorems.{one-flip, one-flip-late, two-flip
 -- an accepted call that ends after k passes and leaves s
 abbrev pub leaves : ℕ → Bool → ℕ → List ℕ → Outcome
 leaves code success k s = left (ending success k) s (replicate (bitsIn code) 0)
-
--- what the passes over the word received leave: no bit of a TC code is erased
-module _ (code : ℕ) (tc : TC code) (limit : ℕ) (t : List ℕ) where
-  abbrev ended : End (List ℕ)
-  ended = passes (edges code) (checksIn code) limit (received code t)
-
-  outcome-is : (output working : List ℕ) → answerOf code t output working ≡ 0
-      → outcome code t output working limit ≡ leaves code (ended .success) (ended .turns) (pack (wordOf (ended .state)) (rowOf code .«output_len»))
-  unfolding decoded decodeWord
-  outcome-is output working accepted =
-      let z = sym (no-bits (punctured code) (edges code) (rowOf code .«punctured_bits») limit (received code t) (tc-sent code tc)) in
-      is-accepted code t output working limit accepted ∙ rw (z, add-zero (ended .turns))
-
-  -- the output's bits are the word's
-  output-word : bitAt (pack (wordOf (ended .state)) (rowOf code .«output_len»)) ≡ wordOf (ended .state)
-  output-word =
-      packed-word (ended .state) (rowOf code .«output_len»)
-      (passes-length (edges code) (checksIn code) limit (received code t) ∙ span-length (bitAt t) 0 (bitsIn code) ∙ sym (roomy code (omega arith) .whole))
-      (passes-bits (edges code) (checksIn code) limit (received code t) (span-bits (bitAt t) (bitAt-low t) (bitsIn code)))
 
 module _ (code : ℕ) (tc : TC code) (s : List ℕ) (bytes : Bytes s) (long : length s ≡ rowOf code .n / 8) (good : Meets code (bitAt s)) where
   abbrev known-code : Known code

@@ -6,19 +6,19 @@ use mathlib.Core.Path.{_≡_, refl, sym, ap, _∙_, fun-ext}
 use Prim.Native.Nat.{ℕ, _+_, _*_, _%_, _<_}
 use native.Mathlib.Decide.{ℕ-discrete, decLt}
 use native.Mathlib.Omega.{arith}
-use lib.Dec.{T, eqb, eqb→eq, ltb, ltb→lt}
+use lib.Dec.{T, eqb, eqb→eq, ltb}
 use borrow.Author.Tests.{lt-ltb, eq-eqb}
 use Rattle.maths.specs.Tests.{pick, both, all}
 use Rattle.maths.specs.Sums.{sumL, sumN}
 use Rattle.maths.specs.Ones.{delta}
 use Rattle.maths.specs.Tally.{tally}
-use Rattle.maths.proofs.Tests.{both-left, both-right, both-true, both-false, pick-bit}
+use Rattle.maths.proofs.Tests.{both-true, both-false, pick-bit}
 use Rattle.maths.proofs.Sums.{sumN-ext}
 use Rattle.maths.proofs.Ones.{delta-other, sum-counts}
-use Rattle.codes.specs.Edges.{Edge, inRange}
+use Rattle.codes.specs.Edges.{Edge}
 use Rattle.codes.specs.Equations.{checksOf, par}
 use Rattle.matrices.specs.Counts.{count}
-use Rattle.matrices.proofs.Edges.{Ranged, count-par}
+use Rattle.matrices.proofs.Edges.{Ranged, ranged-first, count-par}
 use Rattle.two_flips.specs.Clear.{oddTo, touching, Clear}
 
 -- how many edges v has to the checks that the ones of f make odd
@@ -100,11 +100,11 @@ module _ (m n : ℕ) where
   checks-below : (es : List Edge) → Ranged m n es → (v : ℕ) → T (all (λ a. ltb a m) (checksOf es v))
   checks-below [] r v = tt
   checks-below (e ∷ es) r v =
-      go (eqb (e .bit) v) (both-left (ltb (e .check) m) (ltb (e .bit) n) (both-left (inRange m n e) (all (inRange m n) es) r))
-      (checks-below es (both-right (inRange m n e) (all (inRange m n) es) r) v)
+      let z = ranged-first m n e es r in
+      go (eqb (e .bit) v) (z .0) (checks-below es (z .2) v)
     where
-      go : (x : Bool) → T (ltb (e .check) m) → T (all (λ a. ltb a m) (checksOf es v)) → T (all (λ a. ltb a m) (pick x (e .check ∷ checksOf es v) (checksOf es v)))
-      go true h ih = rw (lt-ltb (e .check) m (ltb→lt (e .check) m h)) ih
+      go : (x : Bool) → e .check < m → T (all (λ a. ltb a m) (checksOf es v)) → T (all (λ a. ltb a m) (pick x (e .check ∷ checksOf es v) (checksOf es v)))
+      go true h ih = rw (lt-ltb (e .check) m h) ih
       go false h ih = ih
 
   pub score-sum : (es : List Edge) → Ranged m n es → (f : ℕ → ℕ) (v : ℕ) → scoreAt es f v ≡ sumN m (λ a. par es f a % 2 * count es a v)

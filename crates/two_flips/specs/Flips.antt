@@ -12,7 +12,7 @@ use Rattle.two_flips.specs.Clear.{touching}
 abbrev pub degree : List Edge → ℕ → ℕ
 degree es v = length (checksOf es v)
 
--- the wrong bits x and y go away in k flips
+-- what is said of k, the flips in which the wrong bits x and y go away
 pub record PairFlips (es : List Edge) (x y k : ℕ) : Type 0 where
   pub some : 1 ≤ k
   pub most : k ≤ 3
