@@ -1,8 +1,9 @@
-//! One call of a decoder through both libraries: what it leaves, which is the same, or the comparison ends.
+//! One call of a decoder through both libraries: what it leaves, which is the same and as promised, or the comparison ends.
 use crate::same;
 use compare::archive::*;
 use compare::*;
 use labrador_ldpc::LDPCCode;
+use std::fmt::Debug;
 
 /// Success, iterations and output.
 pub type Left = (bool, usize, Vec<u8>);
@@ -33,4 +34,16 @@ pub fn decode_ms_both(i: usize, code: LDPCCode, input: &[i8], most: usize, dice:
     same("decode_ms", code, &(input, most), (report, &ours), (want, &theirs));
     same("decode_ms's working", code, &(input, most), v.iter().all(|&x| x == 0) && t.iter().all(|&x| x == 0), true);
     (success, iters, ours)
+}
+
+/// Ends the comparison where what both libraries left is not what was promised of the case.
+pub fn hold(what: &str, code: LDPCCode, case: impl Debug, left: impl Debug, promised: impl Debug, kept: bool) {
+    if !kept {
+        println!("DIFFERENCE from what is promised: {what} of {code:?}\ncase {case:?}\nleft {left:?}\npromised {promised:?}");
+        std::process::exit(1)
+    }
+}
+
+pub fn hold_to(what: &str, code: LDPCCode, case: impl Debug, left: &Left, promised: &Left) {
+    hold(what, code, case, left, promised, left == promised)
 }

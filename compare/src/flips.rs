@@ -2,7 +2,6 @@
 use crate::both::*;
 use compare::*;
 use labrador_ldpc::LDPCCode;
-use std::fmt::Debug;
 use std::ops::RangeInclusive;
 
 /// How often the frame came back, by iteration, and what else came.
@@ -33,18 +32,6 @@ impl Returned {
     }
 }
 
-/// Ends the comparison where what both libraries left is not what was promised.
-fn hold(what: &str, code: LDPCCode, flipped: &[usize], left: impl Debug, promised: impl Debug, kept: bool) {
-    if !kept {
-        println!("DIFFERENCE from what is promised: {what} of {code:?}\nflipped {flipped:?}\nleft {left:?}\npromised {promised:?}");
-        std::process::exit(1)
-    }
-}
-
-fn hold_to(what: &str, code: LDPCCode, flipped: &[usize], left: &Left, promised: &Left) {
-    hold(what, code, flipped, left, promised, left == promised)
-}
-
 /// The checks of each bit, once for each edge.
 fn checks_of_bits(code: LDPCCode) -> Vec<Vec<usize>> {
     let mut checks = vec![vec![]; code.n()];
@@ -68,11 +55,6 @@ fn flipped(frame: &[u8], bits: &[usize]) -> Vec<u8> {
     word
 }
 
-/// Confidences of one size.
-fn confident(word: &[u8], size: i8) -> Vec<i8> {
-    (0..word.len() * 8).map(|i| if bit_at(word, i) { -size } else { size }).collect()
-}
-
 /// Each single bit: both decoders return the frame at iteration 1, and with a limit of 1 they do not claim it.
 fn compare_one(i: usize, code: LDPCCode, dice: &mut Dice) -> usize {
     let (mut hard, mut soft) = (Returned::default(), Returned::default());
@@ -81,16 +63,16 @@ fn compare_one(i: usize, code: LDPCCode, dice: &mut Dice) -> usize {
         let word = flipped(&frame, &[bit]);
         let left = decode_bf_both(i, code, &word, 2, dice);
         hard.add(&left, &frame);
-        hold_to("decode_bf", code, &[bit], &left, &(true, 1, frame.clone()));
+        hold_to("decode_bf", code, [bit], &left, &(true, 1, frame.clone()));
         let late = decode_bf_both(i, code, &word, 1, dice);
-        hold_to("decode_bf with limit 1", code, &[bit], &late, &(false, 1, frame.clone()));
+        hold_to("decode_bf with limit 1", code, [bit], &late, &(false, 1, frame.clone()));
         for size in [1, 127, 2 + dice.below(125) as i8] {
             let llrs = confident(&word, size);
             let left = decode_ms_both(i, code, &llrs, 2, dice);
             soft.add(&left, &frame);
-            hold_to("decode_ms", code, &[bit], &left, &(true, 1, frame.clone()));
+            hold_to("decode_ms", code, [bit], &left, &(true, 1, frame.clone()));
             let late = decode_ms_both(i, code, &llrs, 1, dice);
-            hold_to("decode_ms with limit 1", code, &[bit], &late, &(false, 1, word.clone()));
+            hold_to("decode_ms with limit 1", code, [bit], &late, &(false, 1, word.clone()));
         }
     }
     hard.show(code, 1, "decode_bf") + soft.show(code, 1, "decode_ms i8")
@@ -106,11 +88,11 @@ fn compare_two(i: usize, code: LDPCCode, pairs: &[(usize, usize)], dice: &mut Di
         let left = decode_bf_both(i, code, &word, 4, dice);
         hard.add(&left, &frame);
         let iters = left.1;
-        hold_to("decode_bf", code, &[x, y], &left, &(true, iters, frame.clone()));
+        hold_to("decode_bf", code, [x, y], &left, &(true, iters, frame.clone()));
         let among = iterations(&checks[x], &checks[y]);
-        hold("the iteration of decode_bf", code, &[x, y], iters, &among, among.contains(&iters));
+        hold("the iteration of decode_bf", code, [x, y], iters, &among, among.contains(&iters));
         let late = decode_bf_both(i, code, &word, iters, dice);
-        hold_to("decode_bf with the limit spent", code, &[x, y], &late, &(false, iters, frame.clone()));
+        hold_to("decode_bf with the limit spent", code, [x, y], &late, &(false, iters, frame.clone()));
         soft.add(&decode_ms_both(i, code, &confident(&word, 1), 20, dice), &frame);
     }
     hard.show(code, 2, "decode_bf") + soft.show(code, 2, "decode_ms i8")

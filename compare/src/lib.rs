@@ -111,6 +111,11 @@ pub fn confidences(code: LDPCCode, dice: &mut Dice) -> Vec<i8> {
         .collect()
 }
 
+/// Confidences of one size.
+pub fn confident(word: &[u8], size: i8) -> Vec<i8> {
+    (0..word.len() * 8).map(|i| if bit_at(word, i) { -size } else { size }).collect()
+}
+
 /// A limit of iterations.
 pub fn limit(dice: &mut Dice) -> usize {
     [0, 1, 1, 2, 2, 3, 3, 20, 20, 20, 50][dice.below(11)]

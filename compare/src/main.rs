@@ -1,5 +1,6 @@
 //! Compares every answer, count and output byte of the two libraries, or times them: compare [CASES] | compare few | compare time
 mod both;
+mod clean;
 mod flips;
 
 use both::*;
@@ -26,6 +27,12 @@ impl Tally {
             (true, _) => self.later += 1,
             _ => self.spent += 1,
         }
+    }
+
+    /// Prints the row and gives the number of cases.
+    fn show(&self, code: LDPCCode, name: &str) -> usize {
+        println!("| {code:?} | {name} | {} | {} | {} | {} |", self.cases, self.at_once, self.later, self.spent);
+        self.cases
     }
 }
 
@@ -266,15 +273,15 @@ fn compare_all(wanted: usize, least: usize) {
         println!("| {code:?} | hard_to_llrs, llrs_to_hard | {converted} | | | |");
         total += encoded + converted;
         for (name, tally) in [("decode_bf", compare_bf(i, code, each, &mut dice)), ("decode_ms i8", compare_ms(i, code, each, &mut dice))] {
-            println!("| {code:?} | {name} | {} | {} | {} | {} |", tally.cases, tally.at_once, tally.later, tally.spent);
-            total += tally.cases;
+            total += tally.show(code, name);
         }
         eprintln!("{code:?} done, {total} cases so far, {} s", start.elapsed().as_secs());
     }
     let refused = compare_refusals();
     println!("| all, and unknown codes | every operation at wrong lengths | {refused} | | | |");
     let flipped = flips::compare_flips(2 * least);
-    println!("\n{} cases, no difference, {} s", total + refused + flipped, start.elapsed().as_secs());
+    let clean = clean::compare_clean(least);
+    println!("\n{} cases, no difference, {} s", total + refused + flipped + clean, start.elapsed().as_secs());
 }
 
 fn sink<T>(_: T) {}

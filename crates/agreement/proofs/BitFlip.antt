@@ -1,8 +1,8 @@
 -- Bit flipping meets the demands on a decoder. Assumes nothing.
 use mathlib.Core.Bool.{true}
 use mathlib.Core.List.{List}
-use mathlib.Core.Path.{_≡_, refl, sym, ap, _∙_}
-use Prim.Native.Nat.{ℕ}
+use mathlib.Core.Path.{_≡_, refl, sym, ap, _∙_, subst}
+use Prim.Native.Nat.{ℕ, _≤_}
 use native.Mathlib.Nat.{add-zero}
 use native.Mathlib.Decide.{ℕ-discrete}
 use native.Mathlib.Omega.{arith}
@@ -10,17 +10,21 @@ use borrow.Author.Tests.{ne-eqb}
 use lib.ListN.{length}
 use Rattle.maths.specs.Bytes.{Bytes}
 use Rattle.maths.proofs.Bytes.{length-pack, bytes-pack}
-use Rattle.codes.specs.Codes.{rowOf, checksIn}
+use Rattle.codes.specs.Codes.{TM, rowOf, checksIn}
 use Rattle.codes.specs.Edges.{edges}
 use Rattle.codes.specs.Equations.{wordOf, holds}
+use Rattle.report.specs.declared.Report.{Report}
 use Rattle.report.specs.Report.{refusal, ending}
 use Rattle.bit_flip.specs.Flip.{flipped, pass, passes}
 use Rattle.bit_flip.specs.Erasures.{erasurePasses}
 use Rattle.bit_flip.specs.Outcome.{Outcome, left, decodeWord, received, punctured, decoded, outcome}
 use Rattle.bit_flip.proofs.Theorems.{is-accepted, success-meets, clean}
-use Rattle.agreement.specs.Demands.{told, DecodesByTable, SuccessMeets, FrameReturns, CountsPasses, DecodesAs}
+use Rattle.telemetry.specs.Completion.{completionBytes, Completes}
+use Rattle.telemetry.proofs.Clean.{clean-completion}
+use Rattle.agreement.specs.Parties.{Sent}
+use Rattle.agreement.specs.Demands.{Told, told, DecodesByTable, SuccessMeets, FrameReturns, FrameCompletes, CountsPasses, DecodesAs}
 use Rattle.agreement.specs.Ours.{Hard, bitFlip, flippedIn, bitFlipping}
-use Rattle.agreement.proofs.Sender.{sent-bytes, sent-meets}
+use Rattle.agreement.proofs.Sender.{sent-bytes, sent-meets, sent-completes, completion-meets}
 use Rattle.agreement.proofs.Counting.{run-counted}
 
 -- a call is accepted, or refused by a number
@@ -66,6 +70,27 @@ pub bit-flip-returns : FrameReturns bitFlipping bitFlip
 bit-flip-returns code b limit tc sent h k =
     ap (λ (x : Outcome). told (x .report) (x .output))
     (clean code (b .input) (b .output) (b .working) limit tc h (sent-bytes sent) (sent-meets sent tc) k)
+
+-- what an accepted call leaves of a sent TM frame: the frame completed
+pub bit-flip-telemetry : (code : ℕ) (b : Hard) (limit : ℕ) → TM code → Sent code (b .input) → bitFlipping .answer code b ≡ 0 → 1 ≤ limit
+    → bitFlip code b limit ≡ told (ending true 0) (completionBytes code (b .input))
+bit-flip-telemetry code b limit tm sent h k =
+    ap (λ (x : Outcome). told (x .report) (x .output))
+    (clean-completion code tm (b .input) (b .output) (b .working) limit h (completion-meets sent tm) k)
+
+pub bit-flip-completes : FrameCompletes bitFlipping bitFlip
+bit-flip-completes code b limit tm sent h k =
+    let e = bit-flip-telemetry code b limit tm sent h k in
+    (ap (λ (x : Told). x .report) e, subst (Completes code (b .input)) (sym (ap (λ (x : Told). x .output) e)) (sent-completes sent tm))
+
+-- ---- a call by the equation that it leaves
+module _ (code : ℕ) (b : Hard) (limit : ℕ) {report : Report} {output working : List ℕ}
+    (e : left report output working ≡ outcome code (b .input) (b .output) (b .working) limit) where
+  pub call-accepted : report .answer ≡ 0 → bitFlipping .answer code b ≡ 0
+  call-accepted a = sym (bit-flip-table code b limit) ∙ sym (ap (λ (x : Outcome). x .report .answer) e) ∙ a
+
+  pub call-told : told report output ≡ bitFlip code b limit
+  call-told = ap (λ (x : Outcome). told (x .report) (x .output)) e
 
 -- the report of the main passes: the erasure pass counts no iteration
 abbrev begun : ℕ → List ℕ → ℕ → List ℕ

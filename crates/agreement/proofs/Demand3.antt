@@ -33,7 +33,7 @@ use Rattle.agreement.specs.Parties.{Sent, Answered, by-bit-flipping, by-
 use Rattle.agreement.specs.Demands.{Told, told}
 use Rattle.agreement.specs.Ours.{Hard, bitFlip, bitFlipping, Soft, minSum, minSumming}
 use Rattle.agreement.proofs.Sender as sender
-use Rattle.agreement.proofs.BitFlip.{bit-flip-table, bit-flip-meets, bit-flip-returns, bit-flip-accepted, bit-flip-bytes, bit-flip-length}
+use Rattle.agreement.proofs.BitFlip.{bit-flip-meets, bit-flip-returns, bit-flip-accepted, bit-flip-bytes, bit-flip-length, call-accepted, call-told}
 use Rattle.agreement.proofs.MinSum.{min-sum-table, min-sum-meets, min-sum-returns, min-sum-accepted, min-sum-bytes, min-sum-length}
 use Rattle.agreement.proofs.FewFlips.{flip-one, flip-late, flip-two, soft-one, soft-late}
 
@@ -65,7 +65,7 @@ succeeded {code} (by-min-sum llrs working working′ old signs signs′ limit e)
     rw (ap (λ (x : Outcome ℤ). x .output) e)
     (record { meets = min-sum-meets i8 code b limit y; bytes = min-sum-bytes i8 code b limit h; long = min-sum-length i8 code b limit h })
 
-back : {report : Report} {output frame : List ℕ} {success : Bool} {k : ℕ} → told report output ≡ told (ending success k) frame
+pub back : {report : Report} {output frame : List ℕ} {success : Bool} {k : ℕ} → told report output ≡ told (ending success k) frame
     → (report .success ≡ success) × (report .iters ≡ k) × (output ≡ frame)
 back e = (ap (λ (x : Told). x .report .success) e, ap (λ (x : Told). x .report .iters) e, ap (λ (x : Told). x .output) e)
 
@@ -112,10 +112,10 @@ module _ {code : ℕ} (tc : TC code) {frame : List ℕ} (sent : Sent code frame)
     lent = record { input = received; output = old; working = working }
 
     accepted : bitFlipping .answer code lent ≡ 0
-    accepted = sym (bit-flip-table code lent limit) ∙ sym (ap (λ (x : flip.Outcome). x .report .answer) e) ∙ a
+    accepted = call-accepted code lent limit e a
 
     left-told : told report output ≡ bitFlip code lent limit
-    left-told = ap (λ (x : flip.Outcome). told (x .report) (x .output)) e
+    left-told = call-told code lent limit e
 
     -- with exactly one bit flipped and a limit of 2 or more the frame comes back with (true, 1); with a limit of 1 it is the output too, but with (false, 1)
     pub one-put-right : distance frame received ≡ 1 → 2 ≤ limit → (report .success ≡ true) × (report .iters ≡ 1) × (output ≡ frame)

@@ -8,6 +8,7 @@ use lib.IntN.{ℤ, pos}
 use lib.ListN.{length, replicate, length-replicate, replicate-append-replicate}
 use Rattle.maths.specs.Lists.{span}
 use Rattle.maths.specs.Bytes.{pack}
+use Rattle.maths.proofs.Slices.{replicate-at}
 use Rattle.maths.proofs.Bytes.{pack-zero}
 use Rattle.codes.specs.Words.{generators}
 use Rattle.codes.specs.Answers.{firstOf}
@@ -25,7 +26,6 @@ use Rattle.min_sum.specs.MinSum.{hardBits}
 use Rattle.min_sum.specs.Outcomes.{left, decodeAnswer, decodeOutcome}
 use Rattle.min_sum.proofs.Answers.{decode-lent}
 use Rattle.min_sum.proofs.Rows.{fine}
-use Rattle.min_sum.proofs.Marginals.{replicate-at}
 use Rattle.min_sum.proofs.Success.{at-once, steady}
 use Rattle.sheet.specs.Text.{ascii}
 use Rattle.sheet.specs.Sheet.{flippedText, answerTo, sheetOf}

@@ -9,6 +9,7 @@ use lib.ListN.{length, getD}
 use Rattle.maths.specs.Bits.{bitAt}
 use Rattle.maths.specs.Bytes.{Bytes}
 use Rattle.maths.specs.Distance.{distance}
+use Rattle.maths.proofs.Slices.{replicate-at}
 use Rattle.codes.specs.Codes.{rows}
 use Rattle.matrices.specs.Frames.{frameOf, encodedBytes}
 use Rattle.matrices.proofs.Edges.{meets-same}
@@ -17,7 +18,6 @@ use Rattle.report.specs.Report.{ending}
 use Rattle.min_sum.specs.Confidence.{i8}
 use Rattle.min_sum.specs.Soft.{below0}
 use Rattle.min_sum.proofs.Conversions.{llrs-hard}
-use Rattle.min_sum.proofs.Marginals.{replicate-at}
 use Rattle.min_sum.proofs.Success.{steady}
 use Rattle.soft_flip.proofs.Frames.{llrs-one-size}
 use Rattle.agreement.specs.Parties.{Sent, by-copy-encode}
@@ -33,7 +33,7 @@ use Rattle.agreement.proofs.MinSum.{min-sum-returns, min-sum-counts, mi
 use Rattle.agreement.proofs.Passes.{spoilt, hardLent, softLent, spoilt-unmet, flip-misses, flip-moves, soft-accepted, soft-misses, soft-moves}
 
 -- ---- two messages, and their frames
-bytes-then : (x n : ℕ) → x < 256 → Bytes (x ∷ zeros n)
+pub bytes-then : (x n : ℕ) → x < 256 → Bytes (x ∷ zeros n)
 bytes-then x n h zero l = h
 bytes-then x n h (suc i) l = rw (replicate-at {A = ℕ} n 0 i) (omega arith)
 

@@ -9,4 +9,5 @@ pub mod Zeros
 pub mod Examples
 pub mod Passes
 pub mod Idle
+pub mod Telemetry
 pub mod Order

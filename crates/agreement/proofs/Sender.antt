@@ -12,11 +12,13 @@ use Rattle.maths.specs.Tests.{pick}
 use Rattle.maths.specs.Bits.{bitAt}
 use Rattle.maths.specs.Bytes.{Bytes}
 use Rattle.codes.specs.Answers.{unlike}
-use Rattle.codes.specs.Codes.{codes, Known, known, TC, rowOf}
+use Rattle.codes.specs.Codes.{codes, Known, known, TC, TM, rowOf}
 use Rattle.codes.specs.Equations.{Meets}
 use Rattle.matrices.specs.Frames.{frameOf, encodedBytes}
 use Rattle.matrices.proofs.Sizes.{sizes}
 use Rattle.matrices.proofs.Encoded.{encoded-meets, encoded-length, encoded-bytes, encoded-bits}
+use Rattle.telemetry.specs.Completion.{completion, completionBytes, Completes}
+use Rattle.telemetry.proofs.Clean as clean
 use Rattle.encoder.specs.Outcomes.{Encoded, encoded, encodeOutcome, copyEncodeOutcome}
 use Rattle.agreement.specs.Parties.{Sent, by-encode, by-copy-encode}
 use Rattle.agreement.specs.Demands.{EncodesByTable, EncodesData, FrameMeets}
@@ -120,3 +122,16 @@ module _ {code : ℕ} {frame : List ℕ} (sent : Sent code frame) where
   -- of a TC code it meets every equation
   pub sent-meets : TC code → Meets code (bitAt frame)
   sent-meets = frames-meets (sent-message sent .frames)
+
+  -- of a TM code it has a completion, which does
+  pub sent-completes : TM code → Completes code frame (completionBytes code frame)
+  sent-completes tm =
+      let m = sent-message sent in
+      let f = m .frames in
+      rw (f .is) (clean.sent-completes code tm (m .message) (f .long))
+
+  pub completion-meets : TM code → Meets code (completion code (bitAt frame))
+  completion-meets tm =
+      let m = sent-message sent in
+      let f = m .frames in
+      rw (f .is) (clean.sent-meets code tm (m .message) (f .long))

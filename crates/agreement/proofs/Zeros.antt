@@ -5,6 +5,7 @@ use native.Mathlib.Nat.{zero-div, zero-mul}
 use native.Mathlib.Omega.{arith}
 use lib.ListN.{replicate-append-replicate}
 use Rattle.maths.specs.Bits.{bitAt}
+use Rattle.maths.proofs.Slices.{replicate-at}
 use Rattle.maths.proofs.Sums.{sumL-zero, sumN-zero, sumN-ext}
 use Rattle.maths.proofs.Bytes.{pack-zero}
 use Rattle.codes.specs.Codes.{Known, rowOf}
@@ -13,7 +14,6 @@ use Rattle.codes.specs.Equations.{bitsOf, Meets}
 use Rattle.matrices.specs.Circulants.{circulantOf}
 use Rattle.matrices.specs.Frames.{adds, generator, parityOf, encodedBytes}
 use Rattle.matrices.proofs.Sizes.{parityBytes, sizes}
-use Rattle.min_sum.proofs.Marginals.{replicate-at}
 use Rattle.agreement.specs.Examples.{zeros}
 
 -- its bits

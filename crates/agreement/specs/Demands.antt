@@ -5,12 +5,13 @@ use mathlib.Core.Path.{_≡_}
 use Prim.Native.Nat.{ℕ, _≤_, _<_}
 use Rattle.maths.specs.Bits.{bitAt}
 use Rattle.maths.specs.Distance.{distance}
-use Rattle.codes.specs.Codes.{TC, rowOf}
+use Rattle.codes.specs.Codes.{TC, TM, rowOf}
 use Rattle.codes.specs.Equations.{Meets}
 use Rattle.matrices.specs.Frames.{frameOf}
 use Rattle.report.specs.declared.Report.{Report}
 use Rattle.report.specs.Report.{ending}
 use Rattle.encoder.specs.Outcomes.{Encoded}
+use Rattle.telemetry.specs.Completion.{Completes}
 use Rattle.agreement.specs.Parties.{Sent}
 
 -- ---- an encoder: by code and the buffers that it is lent, its answer and the codeword
@@ -79,6 +80,11 @@ module _ {B : Type 0} (calls : Receiving B) (d : Decoder B) where
   abbrev pub FrameReturns : Type 0
   FrameReturns = (code : ℕ) (b : B) (limit : ℕ) → TC code → Sent code (calls .word b) → calls .answer code b ≡ 0 → 1 ≤ limit
       → d code b limit ≡ told (ending true 0) (calls .word b)
+
+  -- request T-10: a frame of a TM code that comes unchanged, with a limit of at least 1, comes back completed, with success at iteration 0
+  abbrev pub FrameCompletes : Type 0
+  FrameCompletes = (code : ℕ) (b : B) (limit : ℕ) → TM code → Sent code (calls .word b) → calls .answer code b ≡ 0 → 1 ≤ limit
+      → (d code b limit .report ≡ ending true 0) × Completes code (calls .word b) (d code b limit .output)
 
   -- demand 2: the iteration number is the pass count
   abbrev pub CountsPasses : Type 0

@@ -7,7 +7,7 @@ use Rattle.maths.specs.Tests.{pick}
 use Rattle.maths.specs.Lists.{fold}
 use Rattle.maths.specs.Budget.{Turn, stop, go, run}
 use Rattle.maths.specs.Distance.{distance}
-use Rattle.codes.specs.Codes.{TC, rowOf, checksIn}
+use Rattle.codes.specs.Codes.{TC, TM, rowOf, checksIn}
 use Rattle.codes.specs.Edges.{Edge, edges}
 use Rattle.report.specs.declared.Report.{Report}
 use Rattle.report.specs.Report.{refusal, ending}
@@ -16,7 +16,7 @@ use Rattle.min_sum.specs.Confidence.{Confidence}
 use Rattle.min_sum.specs.MinSum.{Messages, numbered, addMessage, takeMessage, restarted, renewed, start, met}
 use Rattle.min_sum.specs.Hard.{toHard}
 use Rattle.agreement.specs.Parties.{Sent}
-use Rattle.agreement.specs.Demands.{Encoder, Sending, EncodesByTable, EncodesData, FrameMeets, Told, told, Decoder, Receiving, DecodesByTable, SuccessMeets, FrameReturns, CountsPasses, DecodesAs, FewFlipsReturn}
+use Rattle.agreement.specs.Demands.{Encoder, Sending, EncodesByTable, EncodesData, FrameMeets, Told, told, Decoder, Receiving, DecodesByTable, SuccessMeets, FrameReturns, FrameCompletes, CountsPasses, DecodesAs, FewFlipsReturn}
 use Rattle.agreement.specs.Ours.{Soft}
 
 -- what a decoder says, by code, the buffers that it is lent and the limit
@@ -114,6 +114,18 @@ pub record NoIdleCorrector {B : Type 0} (calls : Receiving B) (plain : B → Typ
   pub made-up : (number : ℕ → B → ℕ → ℕ) (d : Decoder B) → FewFlipsReturn calls plain 1 (renumbered number d) → (code : ℕ) (b : B) (limit : ℕ) (frame : List ℕ)
       → TC code → Sent code frame → calls .answer code b ≡ 0 → plain b → distance frame (calls .word b) ≡ 1 → 2 ≤ limit → number code b limit ≡ 1
   pub one-number : (n : ℕ) (d : Decoder B) → FewFlipsReturn calls plain 1 (renumbered (λ code b limit. n) d) → ⊥
+
+-- ---- and none completes an unchanged frame of a TM code
+pub record NoIdleCompleter {B : Type 0} (calls : Receiving B) : Type 0 where
+  -- never succeeding, and one fixed answer
+  pub failing : (d : Decoder B) → FrameCompletes calls (fails d) → ⊥
+  pub one-answer : (x : Told) → FrameCompletes calls (decodesAlike x) → ⊥
+  -- doing nothing, and copying, whatever they say: a refusal is among what they may say
+  pub resting : (says : Reports B) → FrameCompletes calls (rests calls says) → ⊥
+  pub copying : (says : Reports B) → FrameCompletes calls (copies calls says) → ⊥
+  -- a made-up number: it is 0
+  pub made-up : (number : ℕ → B → ℕ → ℕ) (d : Decoder B) → FrameCompletes calls (renumbered number d) → (code : ℕ) (b : B) (limit : ℕ)
+      → TM code → Sent code (calls .word b) → calls .answer code b ≡ 0 → 1 ≤ limit → number code b limit ≡ 0
 
 -- ---- "Adding messages in another order: saturating sums depend on it.": min-sum that adds them from the last edge to the first
 module _ {C : Type 0} (o : Confidence C) (es : List Edge) (checks punctured : ℕ) (llrs : List C) where

@@ -56,7 +56,7 @@ module _ (es : List Edge) (m : ℕ) where
       by true h e = let q : s ≡ t = cc in (q, rw (← q) h)
       by false h e = absurd (let z : _≡_ {A = ℕ} 0 1 = cc in omega arith)
 
-  clean-pass : (s : List ℕ) → holds es m (wordOf s) ≡ true → pass es m s ≡ stop s
+  pub clean-pass : (s : List ℕ) → holds es m (wordOf s) ≡ true → pass es m s ≡ stop s
   unfolding pass
   clean-pass s e = rw e
 
@@ -108,7 +108,7 @@ module _ (code : ℕ) (input output working : List ℕ) (limit : ℕ) where
         by true k = ltb-true code codes k
         by false k = absurd (let z : _≡_ {A = ℕ} 1 0 = rw k at e in omega arith)
 
-    accepted-input : length input ≡ rowOf code .n / 8
+    pub accepted-input : length input ≡ rowOf code .n / 8
     accepted-input = by (eqb (length input) (rowOf code .n / 8)) refl
       where
         by : (b : Bool) → eqb (length input) (rowOf code .n / 8) ≡ b → length input ≡ rowOf code .n / 8

@@ -7,14 +7,14 @@ use native.Mathlib.Omega.{arith}
 use lib.Dec.{T, ltb, leb, eqb, ltb→lt, leb→le, eqb→eq}
 use lib.ListN.{getD}
 use borrow.Author.Tests.{ltb-false}
-use Rattle.maths.specs.Tests.{pick, both, all}
+use Rattle.maths.specs.Tests.{pick, both, all, below}
 use Rattle.maths.proofs.Tests.{both-left, both-right, all-at, all-anywhere, below-at, below-eq}
 use Rattle.codes.specs.declared.CodeParams.{CodeParams}
 use Rattle.codes.specs.declared.MatrixTables.{MatrixTables}
 use Rattle.codes.specs.declared.«parity_iter».Block.{Block}
 use Rattle.codes.specs.declared.«parity_iter».Block.the-variants.{Ends, Empty, Identity, Permutation}
 use Rattle.codes.specs.Tables.{prototypes}
-use Rattle.codes.specs.Codes.{codes, Known, tcCodes, TC, rows, row, rowOf, bitsIn, checksIn, tables, tablesOf, prototypeOf}
+use Rattle.codes.specs.Codes.{codes, Known, tcCodes, TC, TM, rows, row, rowOf, bitsIn, checksIn, tables, tablesOf, prototypeOf}
 use Rattle.codes.specs.Blocks.{byteAt, blockOf}
 use Rattle.codes.specs.Sound.{Sized, Small, Roomy}
 
@@ -70,6 +70,20 @@ roomy code h =
 pub tc-sent : (code : ℕ) → TC code → rowOf code .«punctured_bits» ≡ 0
 unfolding rows
 tc-sent code h = below-eq tcCodes (λ c. rowOf c .«punctured_bits») (λ c. 0) tt code h
+
+-- a test of every TM code
+abbrev pub tmCodes : ℕ
+tmCodes = codes - tcCodes
+
+pub tm-at : (test : ℕ → Bool) → T (below tmCodes (λ c. test (tcCodes + c))) → (code : ℕ) → TM code → T (test code)
+tm-at test t code (low, high) =
+    let e : tcCodes + (code - tcCodes) ≡ code = omega (arith, low) in
+    subst (λ (c : ℕ). T (test c)) e (below-at tmCodes (λ c. test (tcCodes + c)) t (code - tcCodes) (omega (arith, low, high)))
+
+-- some of its bits are not
+pub tm-punctured : (code : ℕ) → TM code → 0 < rowOf code .«punctured_bits»
+unfolding rows
+tm-punctured code tm = ltb→lt 0 (rowOf code .«punctured_bits») (tm-at (λ c. ltb 0 (rowOf c .«punctured_bits»)) tt code tm)
 
 -- the tables of every code are there
 tables-test : MatrixTables → Bool

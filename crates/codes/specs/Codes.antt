@@ -1,7 +1,7 @@
 -- The codes by number: their parameters, and the tables that their matrices and generators are made of. Assumes nothing.
 use mathlib.Core.Bool.{Bool, not}
 use mathlib.Core.List.{List, [], _∷_}
-use Prim.Native.Nat.{ℕ, _+_, _-_, _*_, _/_, _<_}
+use Prim.Native.Nat.{ℕ, _+_, _-_, _*_, _/_, _≤_, _<_}
 use lib.Dec.{ltb}
 use lib.ListN.{getD}
 use Rattle.codes.specs.declared.CodeParams.{CodeParams}
@@ -27,6 +27,10 @@ tcCodes = 3
 
 abbrev pub TC : ℕ → Type 0
 TC code = code < tcCodes
+
+-- and those after them, the TM codes
+abbrev pub TM : ℕ → Type 0
+TM code = (tcCodes ≤ code) × (code < codes)
 
 -- a row: n, k, punctured bits p, block size M, circulant size b, edges E, and the four lengths that follow from them
 abbrev pub row : ℕ → ℕ → ℕ → ℕ → ℕ → ℕ → CodeParams

@@ -15,3 +15,4 @@ pub mod Parts
 pub mod Tested
 pub mod Fronts
 pub mod Stores
+pub mod Blocks

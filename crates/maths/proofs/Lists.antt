@@ -95,6 +95,18 @@ pub keep-nothing : {A : Type 0} (f p : A → Bool) (xs : List A) → T (all f xs
 keep-nothing f p [] t k = refl
 keep-nothing f p (x ∷ xs) t k = rw (k x (both-left (f x) (all f xs) t)) (keep-nothing f p xs (both-right (f x) (all f xs) t) k)
 
+-- what is kept of an image is the image of what is kept
+pub keep-map : {A B : Type 0} (f : B → Bool) (h : A → B) (xs : List A) → keep f (map h xs) ≡ map h (keep (λ x. f (h x)) xs)
+keep-map f h [] = refl
+keep-map {A} f h (x ∷ xs) = rw (keep-map f h xs) (go (f (h x)))
+  where
+    kept : List A
+    kept = keep (λ x. f (h x)) xs
+
+    go : (y : Bool) → pick y (h x ∷ map h kept) (map h kept) ≡ map h (pick y (x ∷ kept) kept)
+    go true = refl
+    go false = refl
+
 -- a test that holds of every element keeps them all
 pub keep-all : {A : Type 0} (f : A → Bool) (xs : List A) → T (all f xs) → keep f xs ≡ xs
 keep-all f [] t = refl

@@ -55,6 +55,12 @@ span-map g l = sym (span-is (map g l) _ (length l) (mapped-length l) (mapped-at 
     mapped-at (x ∷ l) zero h = refl
     mapped-at (x ∷ l) (suc i) h = mapped-at l i (le-of-suc-le-suc h)
 
+-- a list of one element many times, read past its end too
+pub replicate-at : {A : Type 0} (n : ℕ) (x : A) (i : ℕ) → getD (replicate n x) i x ≡ x
+replicate-at zero x i = refl
+replicate-at (suc n) x zero = refl
+replicate-at (suc n) x (suc i) = replicate-at n x i
+
 pub span-zeros : (n : ℕ) → span {A = ℕ} (λ i. 0) 0 n ≡ replicate n 0
 unfolding span
 span-zeros n = from 0 n

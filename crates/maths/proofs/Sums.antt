@@ -1,10 +1,12 @@
 -- Laws of sums of natural numbers, and of evenness. Assumes nothing.
+use mathlib.Core.Bool.{Bool, true, false}
 use mathlib.Core.Path.{_≡_, refl, sym, ap, ap₂, _∙_}
 use mathlib.Core.List.{List, [], _∷_, _++_, map}
 use Prim.Native.Nat.{ℕ, zero, suc, _+_, _*_, _/_, _%_, _≤_, _<_}
 use native.Mathlib.Nat.{add-zero, add-suc, add-comm, mul-zero, mul-suc, zero-mul, suc-mul, mul-add, mul-mod-left, mul-assoc, le-suc, le-refl, le-trans, div-add-mod'}
 use native.Mathlib.Omega.{arith}
-use Rattle.maths.specs.Lists.{span}
+use Rattle.maths.specs.Tests.{pick}
+use Rattle.maths.specs.Lists.{span, keep}
 use Rattle.maths.specs.Sums.{sumL, sumN, Even}
 
 pub even-add : (a b : ℕ) → Even a → Even b → Even (a + b)
@@ -51,6 +53,24 @@ sumL-sumN (suc n) vs f =
 pub sumL-mod : (vs : List ℕ) (f : ℕ → ℕ) → sumL vs (λ v. f v % 2) % 2 ≡ sumL vs f % 2
 sumL-mod [] f = refl
 sumL-mod (v ∷ vs) f = omega (arith, sumL-mod vs f)
+
+-- over the elements that pass a test, and over the others
+pub sumL-keep : (f : ℕ → Bool) (g : ℕ → ℕ) (vs : List ℕ) → sumL vs (λ v. pick (f v) (g v) 0) ≡ sumL (keep f vs) g
+sumL-keep f g [] = refl
+sumL-keep f g (v ∷ vs) = rw (sumL-keep f g vs) (go (f v))
+  where
+    go : (x : Bool) → pick x (g v) 0 + sumL (keep f vs) g ≡ sumL (pick x (v ∷ keep f vs) (keep f vs)) g
+    go true = refl
+    go false = omega arith
+
+pub sumL-split : (f : ℕ → Bool) (g : ℕ → ℕ) (vs : List ℕ) → sumL vs g ≡ sumL vs (λ v. pick (f v) 0 (g v)) + sumL vs (λ v. pick (f v) (g v) 0)
+sumL-split f g [] = refl
+sumL-split f g (v ∷ vs) = go (f v) (sumL-split f g vs)
+  where
+    go : (x : Bool) → sumL vs g ≡ sumL vs (λ v. pick (f v) 0 (g v)) + sumL vs (λ v. pick (f v) (g v) 0)
+        → g v + sumL vs g ≡ pick x 0 (g v) + sumL vs (λ v. pick (f v) 0 (g v)) + (pick x (g v) 0 + sumL vs (λ v. pick (f v) (g v) 0))
+    go true ih = omega arith
+    go false ih = omega arith
 
 pub sumL-map : (h : ℕ → ℕ) (vs : List ℕ) (w : ℕ → ℕ) → sumL (map h vs) w ≡ sumL vs (λ v. w (h v))
 sumL-map h [] w = refl

@@ -1,4 +1,4 @@
--- How many edges a bit has in a matrix of circulants. Assumes nothing.
+-- The checks of a bit in a matrix of circulants, and their number. Assumes nothing.
 use mathlib.Core.Bool.{Bool}
 use mathlib.Core.List.{List, [], _∷_, map}
 use mathlib.Core.Path.{_≡_, sym, ap, _∙_}
@@ -23,15 +23,15 @@ use Rattle.matrices.proofs.Rows.{inColumn}
 
 module _ (b : ℕ) (pos : 0 < b) where
   -- the row of a circulant that has its edge to offset x
-  abbrev rowTo : ℕ → Circ → ℕ
+  abbrev pub rowTo : ℕ → Circ → ℕ
   rowTo x k = (x + (b - k .turn % b)) % b
 
-  row-to : (x : ℕ) (k : Circ) → x < b → (k .turn + rowTo x k) % b ≡ x
+  pub row-to : (x : ℕ) (k : Circ) → x < b → (k .turn + rowTo x k) % b ≡ x
   row-to x k hx =
       sym (turn-term b (k .turn) x (b - k .turn % b)) ∙ rw (add-comm (k .turn) x) (turn-back b x (k .turn) pos) ∙ mod-eq-of-lt hx
 
   -- the checks of a bit: one for each circulant of its column
-  checks-column : (ks : List Circ) (p x : ℕ) → x < b
+  pub checks-column : (ks : List Circ) (p x : ℕ) → x < b
       → checksOf (edgesOf b ks) (p * b + x) ≡ map (λ k. k .row * b + rowTo x k) (inColumn ks p)
   unfolding edgesOf ring
   checks-column ks p x hx =

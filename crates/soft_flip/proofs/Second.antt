@@ -12,13 +12,14 @@ use lib.ListN.{length, getD, set, length-set, length-append, length-replicate, g
 use lib.Seq.{getD-set-same, getD-set-other}
 use Rattle.maths.specs.Tests.{pick, all}
 use Rattle.maths.specs.Lists.{fold}
+use Rattle.maths.proofs.Slices.{replicate-at}
 use Rattle.codes.specs.Edges.{Edge, inRange}
 use Rattle.codes.specs.Equations.{bitsOf, checksOf, par}
 use Rattle.matrices.proofs.Edges.{ranged-first}
 use Rattle.min_sum.specs.Soft.{satAdd}
 use Rattle.min_sum.specs.Confidence.{Confidence, whole}
 use Rattle.min_sum.specs.MinSum.{link, numbered, Messages, at, hardBits, newU, addMessage, restarted, renewed, start, pass}
-use Rattle.min_sum.proofs.Marginals.{replicate-at, start-quiet, pass-marginals, first-hard}
+use Rattle.min_sum.proofs.Marginals.{start-quiet, pass-marginals, first-hard}
 use Rattle.min_sum.proofs.Success.{steady}
 use Rattle.soft_flip.specs.OneSize.{level}
 use Rattle.soft_flip.proofs.Saturated.{total, signs}

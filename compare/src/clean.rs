@@ -1,0 +1,65 @@
+//! Unchanged TM frames: bit flipping returns them with the bits that were not sent, and what min-sum does with them.
+use crate::both::*;
+use crate::Tally;
+use compare::*;
+use labrador_ldpc::LDPCCode;
+
+/// For each bit that is not sent the other bits of the one check that has no second such edge.
+fn lone_checks(code: LDPCCode) -> Vec<Vec<usize>> {
+    let mut checks = vec![vec![]; code.n() + code.punctured_bits() - code.k()];
+    code.iter_paritychecks().for_each(|(check, bit)| checks[check].push(bit));
+    let mut lone = vec![None; code.punctured_bits()];
+    for bits in checks {
+        let (sent, holes): (Vec<_>, Vec<_>) = bits.into_iter().partition(|&bit| bit < code.n());
+        if let [hole] = holes[..] {
+            assert!(lone[hole - code.n()].replace(sent).is_none(), "{code:?}: two checks for bit {hole}");
+        }
+    }
+    lone.into_iter().map(|sent| sent.expect("a check for each bit that is not sent")).collect()
+}
+
+/// The frame, and each bit that is not sent as its check gives it.
+fn completed(code: LDPCCode, lone: &[Vec<usize>], frame: &[u8]) -> Vec<u8> {
+    let mut word = frame.to_vec();
+    word.resize(code.output_len(), 0);
+    for (hole, sent) in lone.iter().enumerate() {
+        if sent.iter().filter(|&&bit| bit_at(frame, bit)).count() % 2 == 1 {
+            flip_bit(&mut word, code.n() + hole);
+        }
+    }
+    word
+}
+
+fn meets(code: LDPCCode, word: &[u8]) -> bool {
+    let mut odd = vec![false; code.n() + code.punctured_bits() - code.k()];
+    code.iter_paritychecks().for_each(|(check, bit)| odd[check] ^= bit_at(word, bit));
+    !odd.contains(&true)
+}
+
+/// Bit flipping returns the frame completed, at 0, with any limit from 1 on; of min-sum nothing is promised.
+fn compare_code(i: usize, code: LDPCCode, cases: usize, dice: &mut Dice) -> usize {
+    let lone = lone_checks(code);
+    let (mut hard, mut soft, mut another) = (Tally::default(), Tally::default(), 0);
+    for case in 0..cases {
+        let frame = frame(code, dice);
+        let whole = completed(code, &lone, &frame);
+        hold("a completion", code, &frame, &whole, "a word that meets every equation", meets(code, &whole));
+        for most in [1, 2, 20] {
+            let left = decode_bf_both(i, code, &frame, most, dice);
+            hold_to("decode_bf", code, (&frame, most), &left, &(true, 0, whole.clone()));
+            hard.add(left.0, left.1);
+        }
+        if case % 10 == 0 {
+            let (success, iters, output) = decode_ms_both(i, code, &confident(&frame, 1), 20, dice);
+            soft.add(success, iters);
+            another += (success && output != whole) as usize;
+        }
+    }
+    hard.show(code, "decode_bf") + soft.show(code, &format!("decode_ms i8, {another} successes of another word"))
+}
+
+/// Random frames of each TM code.
+pub fn compare_clean(cases: usize) -> usize {
+    println!("\n| code | operation, unchanged frames | cases | success at 0 | success later | limit spent |\n|-|-|-|-|-|-|");
+    CODES.iter().enumerate().skip(3).map(|(i, &code)| compare_code(i, code, cases, &mut Dice::new(61 + i as u64))).sum()
+}
