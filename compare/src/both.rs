@@ -47,3 +47,32 @@ pub fn hold(what: &str, code: LDPCCode, case: impl Debug, left: impl Debug, prom
 pub fn hold_to(what: &str, code: LDPCCode, case: impl Debug, left: &Left, promised: &Left) {
     hold(what, code, case, left, promised, left == promised)
 }
+
+/// How often the word that is promised came back, by iteration, and what else came.
+#[derive(Default)]
+pub struct Returned {
+    pub at: [usize; 4],
+    later: usize,
+    another: usize,
+    none: usize,
+}
+
+impl Returned {
+    pub fn add(&mut self, (success, iters, output): &Left, promised: &[u8]) {
+        match (success, output == promised, iters) {
+            (true, true, 0..=3) => self.at[*iters] += 1,
+            (true, true, _) => self.later += 1,
+            (true, false, _) => self.another += 1,
+            _ => self.none += 1,
+        }
+    }
+
+    pub fn cases(&self) -> usize {
+        self.at.iter().sum::<usize>() + self.later + self.another + self.none
+    }
+
+    /// The cells of a row after those of the first iterations.
+    pub fn others(&self) -> String {
+        format!("{} | {} | {} |", self.later, self.another, self.none)
+    }
+}

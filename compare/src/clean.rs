@@ -1,6 +1,5 @@
 //! Unchanged TM frames: bit flipping returns them with the bits that were not sent, and what min-sum does with them.
 use crate::both::*;
-use crate::Tally;
 use compare::*;
 use labrador_ldpc::LDPCCode;
 
@@ -36,30 +35,35 @@ fn meets(code: LDPCCode, word: &[u8]) -> bool {
     !odd.contains(&true)
 }
 
-/// Bit flipping returns the frame completed, at 0, with any limit from 1 on; of min-sum nothing is promised.
+/// Prints the row and gives the number of cases.
+fn show(returned: &Returned, code: LDPCCode, decoder: &str) -> usize {
+    let [zero, one, two, three] = returned.at;
+    println!("| {code:?} | {decoder} | {} | {zero} | {one} | {two} | {three} | {}", returned.cases(), returned.others());
+    returned.cases()
+}
+
+/// Bit flipping returns the frame completed, at 0, with limits from 1 on. Of min-sum nothing is promised: every tenth frame shows what it does.
 fn compare_code(i: usize, code: LDPCCode, cases: usize, dice: &mut Dice) -> usize {
     let lone = lone_checks(code);
-    let (mut hard, mut soft, mut another) = (Tally::default(), Tally::default(), 0);
+    let (mut hard, mut soft) = (Returned::default(), Returned::default());
     for case in 0..cases {
         let frame = frame(code, dice);
         let whole = completed(code, &lone, &frame);
         hold("a completion", code, &frame, &whole, "a word that meets every equation", meets(code, &whole));
         for most in [1, 2, 20] {
             let left = decode_bf_both(i, code, &frame, most, dice);
+            hard.add(&left, &whole);
             hold_to("decode_bf", code, (&frame, most), &left, &(true, 0, whole.clone()));
-            hard.add(left.0, left.1);
         }
         if case % 10 == 0 {
-            let (success, iters, output) = decode_ms_both(i, code, &confident(&frame, 1), 20, dice);
-            soft.add(success, iters);
-            another += (success && output != whole) as usize;
+            soft.add(&decode_ms_both(i, code, &confident(&frame, 1), 20, dice), &whole);
         }
     }
-    hard.show(code, "decode_bf") + soft.show(code, &format!("decode_ms i8, {another} successes of another word"))
+    show(&hard, code, "decode_bf") + show(&soft, code, "decode_ms i8")
 }
 
-/// Random frames of each TM code.
+/// Random frames of each TM code, unchanged.
 pub fn compare_clean(cases: usize) -> usize {
-    println!("\n| code | operation, unchanged frames | cases | success at 0 | success later | limit spent |\n|-|-|-|-|-|-|");
+    println!("\n| code | operation | cases | the frame, completed, at 0 | at 1 | at 2 | at 3 | later | another word | limit spent |\n|-|-|-|-|-|-|-|-|-|-|");
     CODES.iter().enumerate().skip(3).map(|(i, &code)| compare_code(i, code, cases, &mut Dice::new(61 + i as u64))).sum()
 }

@@ -4,32 +4,11 @@ use compare::*;
 use labrador_ldpc::LDPCCode;
 use std::ops::RangeInclusive;
 
-/// How often the frame came back, by iteration, and what else came.
-#[derive(Default)]
-struct Returned {
-    at: [usize; 4],
-    later: usize,
-    another: usize,
-    none: usize,
-}
-
-impl Returned {
-    fn add(&mut self, (success, iters, output): &Left, frame: &[u8]) {
-        match (success, output == frame, iters) {
-            (true, true, 0..=3) => self.at[*iters] += 1,
-            (true, true, _) => self.later += 1,
-            (true, false, _) => self.another += 1,
-            _ => self.none += 1,
-        }
-    }
-
-    /// Prints the row and gives the number of cases.
-    fn show(&self, code: LDPCCode, flips: usize, decoder: &str) -> usize {
-        let cases = self.at.iter().sum::<usize>() + self.later + self.another + self.none;
-        let [_, one, two, three] = self.at;
-        println!("| {code:?} | {flips} | {decoder} | {cases} | {one} | {two} | {three} | {} | {} | {} |", self.later, self.another, self.none);
-        cases
-    }
+/// Prints the row and gives the number of cases.
+fn show(returned: &Returned, code: LDPCCode, flips: usize, decoder: &str) -> usize {
+    let [_, one, two, three] = returned.at;
+    println!("| {code:?} | {flips} | {decoder} | {} | {one} | {two} | {three} | {}", returned.cases(), returned.others());
+    returned.cases()
 }
 
 /// The checks of each bit, once for each edge.
@@ -75,7 +54,7 @@ fn compare_one(i: usize, code: LDPCCode, dice: &mut Dice) -> usize {
             hold_to("decode_ms with limit 1", code, [bit], &late, &(false, 1, word.clone()));
         }
     }
-    hard.show(code, 1, "decode_bf") + soft.show(code, 1, "decode_ms i8")
+    show(&hard, code, 1, "decode_bf") + show(&soft, code, 1, "decode_ms i8")
 }
 
 /// Two bits: bit flipping returns the frame at the iteration that their edges give, and does not claim it with that number as the limit.
@@ -95,7 +74,7 @@ fn compare_two(i: usize, code: LDPCCode, pairs: &[(usize, usize)], dice: &mut Di
         hold_to("decode_bf with the limit spent", code, [x, y], &late, &(false, iters, frame.clone()));
         soft.add(&decode_ms_both(i, code, &confident(&word, 1), 20, dice), &frame);
     }
-    hard.show(code, 2, "decode_bf") + soft.show(code, 2, "decode_ms i8")
+    show(&hard, code, 2, "decode_bf") + show(&soft, code, 2, "decode_ms i8")
 }
 
 /// Three bits: nothing is promised but that a success meets the equations.
@@ -107,7 +86,7 @@ fn compare_three(i: usize, code: LDPCCode, cases: usize, dice: &mut Dice) -> usi
         hard.add(&decode_bf_both(i, code, &word, 20, dice), &frame);
         soft.add(&decode_ms_both(i, code, &confident(&word, 1), 20, dice), &frame);
     }
-    hard.show(code, 3, "decode_bf") + soft.show(code, 3, "decode_ms i8")
+    show(&hard, code, 3, "decode_bf") + show(&soft, code, 3, "decode_ms i8")
 }
 
 /// Random bits of which no two are the same.

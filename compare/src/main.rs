@@ -28,12 +28,6 @@ impl Tally {
             _ => self.spent += 1,
         }
     }
-
-    /// Prints the row and gives the number of cases.
-    fn show(&self, code: LDPCCode, name: &str) -> usize {
-        println!("| {code:?} | {name} | {} | {} | {} | {} |", self.cases, self.at_once, self.later, self.spent);
-        self.cases
-    }
 }
 
 /// Ends the comparison at a difference, with the input that shows it.
@@ -273,7 +267,8 @@ fn compare_all(wanted: usize, least: usize) {
         println!("| {code:?} | hard_to_llrs, llrs_to_hard | {converted} | | | |");
         total += encoded + converted;
         for (name, tally) in [("decode_bf", compare_bf(i, code, each, &mut dice)), ("decode_ms i8", compare_ms(i, code, each, &mut dice))] {
-            total += tally.show(code, name);
+            println!("| {code:?} | {name} | {} | {} | {} | {} |", tally.cases, tally.at_once, tally.later, tally.spent);
+            total += tally.cases;
         }
         eprintln!("{code:?} done, {total} cases so far, {} s", start.elapsed().as_secs());
     }

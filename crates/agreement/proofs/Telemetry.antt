@@ -1,7 +1,7 @@
 -- Sender and receiver of a TM code: a sent frame has exactly one completion, bit flipping returns it, and no idle version does. Assumes nothing.
 use mathlib.Core.Bool.{true}
 use mathlib.Core.List.{List, _∷_}
-use mathlib.Core.Path.{_≡_, refl, sym, ap, _∙_}
+use mathlib.Core.Path.{_≡_, refl, ap, _∙_}
 use Prim.Native.Nat.{ℕ, _/_, _%_, _≤_, _<_}
 use native.Mathlib.Omega.{arith}
 use lib.ListN.{length, take}
@@ -14,10 +14,10 @@ use Rattle.bit_flip.specs.Outcome as flip
 use Rattle.telemetry.specs.Completion.{completionBytes, Completes}
 use Rattle.telemetry.proofs.Clean.{completes-once, completes-front}
 use Rattle.agreement.specs.Parties.{Sent, by-copy-encode}
-use Rattle.agreement.specs.Demands.{Told, Decoder, FrameCompletes}
+use Rattle.agreement.specs.Demands.{Decoder, FrameCompletes}
 use Rattle.agreement.specs.Ours.{Hard, bitFlipping}
 use Rattle.agreement.specs.Examples.{zeros}
-use Rattle.agreement.specs.Idle.{fails, rests, decodesAlike, copies, renumbered, NoIdleCompleter}
+use Rattle.agreement.specs.Idle.{fails, rests, decodesAlike, copies, NoIdleCompleter}
 use Rattle.agreement.proofs.Sender as sender
 use Rattle.agreement.proofs.BitFlip.{bit-flip-telemetry, call-accepted, call-told}
 use Rattle.agreement.proofs.Demand3.{back}

@@ -1,7 +1,7 @@
 -- The edges of a code are those of its circulants, in the same order. Assumes nothing.
 use mathlib.Core.Bool.{Bool, true, false}
-use mathlib.Core.List.{[]}
-use mathlib.Core.Path.{_≡_, refl, sym, ap₂, _∙_}
+use mathlib.Core.List.{List, []}
+use mathlib.Core.Path.{_≡_, refl, sym, ap₂, _∙_, subst, subst₂}
 use Prim.Native.Nat.{ℕ, zero, _+_, _*_, _/_, _%_, _<_}
 use native.Mathlib.Nat.{add-zero, zero-add, add-comm, add-mul, zero-mul, mul-comm, mul-assoc, eq-of-mul-eq-mul-right}
 use native.Mathlib.Nat.{mul-div-cancel-left, mod-eq-of-lt, add-mul-mod-self-right}
@@ -18,11 +18,11 @@ use Rattle.codes.specs.declared.«parity_iter».Place.{Place}
 use Rattle.codes.specs.declared.«parity_iter».Block.{Block}
 use Rattle.codes.specs.declared.«parity_iter».Block.the-variants.{Ends, Empty, Identity, Permutation}
 use Rattle.codes.specs.Tables.{prototypes}
-use Rattle.codes.specs.Codes.{codes, Known, Matrix, matrixOf, prototypeOf, rows, tables}
+use Rattle.codes.specs.Codes.{codes, Known, Matrix, matrixOf, prototypeOf, rows, rowOf, tables, bitsIn, checksIn}
 use Rattle.codes.specs.Blocks.{blockOf, blockAt, cellBlocks, rowBlocks, lastRows}
 use Rattle.codes.specs.Edges.{Edge, edge, columnOf, edgeAt, blockEdges, blocksOf, edges}
 use Rattle.matrices.specs.Circulants.{Circ, circ, spot, ring, edgesOf, circsAt, blockCircs, circulantOf, circs}
-use Rattle.matrices.proofs.Sizes.{sizes}
+use Rattle.matrices.proofs.Sizes.{dataBlocks, checkBlocks, bitBlocks, sizes}
 
 -- the edge of row i of a block, by its block row and block column
 sides : Matrix → Block → ℕ → ℕ → ℕ → Edge
@@ -118,3 +118,14 @@ edges-circs code h =
     (below-at codes (λ c. all (listed c) (blocksOf c)) all-listed code h)
     (λ p f. block-circs x b (p .row) (p .col) (blockAt (x .prototype) p) (z .some) (z .whole) f)
     ∙ sym (flatMap-flatMap (ring b) (blockCircs x b) (blocksOf code))
+
+-- what holds of a code's circulants, with its checks, its bits and its data counted in blocks, holds of its edges
+pub of-edges : (code : ℕ) → Known code → (P : List Edge → ℕ → ℕ → ℕ → Type 0)
+    → (let b = circulantOf code in P (edgesOf b (circs code)) (checkBlocks code * b) (bitBlocks code * b) (dataBlocks code * b))
+    → P (edges code) (checksIn code) (bitsIn code) (rowOf code .k)
+of-edges code h P holds =
+    let z = sizes code h in
+    subst (λ (k : ℕ). P (edges code) (checksIn code) (bitsIn code) k) (z .data-blocks)
+    (subst₂ (λ (m n : ℕ). P (edges code) m n (dataBlocks code * circulantOf code)) (z .check-blocks) (z .bit-blocks)
+    (subst (λ (es : List Edge). P es (checkBlocks code * circulantOf code) (bitBlocks code * circulantOf code) (dataBlocks code * circulantOf code))
+    (sym (edges-circs code h)) holds))

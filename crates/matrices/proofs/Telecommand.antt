@@ -1,8 +1,7 @@
 -- TC128, TC256, TC512: every frame meets the equations, and every column is odd. Assumes nothing.
 use mathlib.Core.Bool.{Bool}
-use mathlib.Core.Path.{sym, subst, subst₂}
-use mathlib.Core.List.{List, flatMap}
-use Prim.Native.Nat.{ℕ, _*_, _<_}
+use mathlib.Core.List.{flatMap}
+use Prim.Native.Nat.{ℕ, _<_}
 use native.Mathlib.Omega.{arith}
 use lib.Dec.{T}
 use Rattle.maths.specs.Tests.{below}
@@ -13,15 +12,15 @@ use Rattle.codes.specs.Tables.{prototypes}
 use Rattle.codes.specs.Words.{generators}
 use Rattle.codes.specs.Codes.{Known, tcCodes, TC, rows, rowOf, bitsIn, checksIn, tables}
 use Rattle.codes.specs.Blocks.{blockOf, cellBlocks, rowBlocks, lastRows}
-use Rattle.codes.specs.Edges.{Edge, blocksOf, edges}
+use Rattle.codes.specs.Edges.{blocksOf, edges}
 use Rattle.codes.specs.Equations.{Hold, Meets}
 use Rattle.codes.proofs.Flat.{edges-ranged}
-use Rattle.matrices.specs.Circulants.{edgesOf, circulantOf, circs, circsAt, blockCircs}
+use Rattle.matrices.specs.Circulants.{circulantOf, circs, circsAt, blockCircs}
 use Rattle.matrices.specs.Frames.{generator, frameOf}
 use Rattle.matrices.specs.Generators.{systematic, gEntry}
 use Rattle.matrices.specs.Columns.{Odd}
 use Rattle.matrices.proofs.Sizes.{dataBlocks, checkBlocks, bitBlocks, sizes}
-use Rattle.matrices.proofs.Circulants.{edges-circs}
+use Rattle.matrices.proofs.Circulants.{of-edges}
 use Rattle.matrices.proofs.Edges.{hold-sum, even-word}
 use Rattle.matrices.proofs.Rows.{inRow, sumRow}
 use Rattle.matrices.proofs.Generators.{frame-of-product}
@@ -42,17 +41,6 @@ rows-hold = tt
 odds-hold : T (below tcCodes oddsOf)
 unfolding rows tables prototypes circs flatMap blockCircs circsAt span blocksOf lastRows rowBlocks cellBlocks blockOf
 odds-hold = tt
-
--- what holds of a code's circulants, with its checks, its bits and its data counted in blocks, holds of its edges
-pub of-edges : (code : ℕ) → Known code → (P : List Edge → ℕ → ℕ → ℕ → Type 0)
-    → (let b = circulantOf code in P (edgesOf b (circs code)) (checkBlocks code * b) (bitBlocks code * b) (dataBlocks code * b))
-    → P (edges code) (checksIn code) (bitsIn code) (rowOf code .k)
-of-edges code h P holds =
-    let z = sizes code h in
-    subst (λ (k : ℕ). P (edges code) (checksIn code) (bitsIn code) k) (z .data-blocks)
-    (subst₂ (λ (m n : ℕ). P (edges code) m n (dataBlocks code * circulantOf code)) (z .check-blocks) (z .bit-blocks)
-    (subst (λ (es : List Edge). P es (checkBlocks code * circulantOf code) (bitBlocks code * circulantOf code) (dataBlocks code * circulantOf code))
-    (sym (edges-circs code h)) holds))
 
 -- ---- the theorems
 module _ (code : ℕ) (tc : TC code) where

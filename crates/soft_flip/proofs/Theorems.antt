@@ -24,9 +24,9 @@ use Rattle.codes.proofs.Flat.{edges-ranged}
 use Rattle.codes.proofs.Codes.{tc-sent}
 use Rattle.matrices.specs.Circulants.{Circ, circulantOf, circs, circsAt, blockCircs, edgesOf}
 use Rattle.matrices.proofs.Sizes.{checkBlocks, sizes}
+use Rattle.matrices.proofs.Circulants.{of-edges}
 use Rattle.matrices.proofs.Once.{once}
 use Rattle.matrices.proofs.Rows.{inRow, sumRow, par-row}
-use Rattle.matrices.proofs.Telecommand.{of-edges}
 use Rattle.two_flips.specs.Flips.{degree}
 use Rattle.two_flips.proofs.Scores.{scoreAt}
 use Rattle.two_flips.proofs.Pairs.{own}

@@ -1,7 +1,7 @@
 -- The TM codes: every punctured bit has one check with no other punctured edge. Assumes nothing.
 use mathlib.Core.Bool.{Bool}
-use mathlib.Core.List.{List, [], _∷_, flatMap}
-use mathlib.Core.Path.{_≡_, sym, subst, subst₂}
+use mathlib.Core.List.{[], _∷_, flatMap}
+use mathlib.Core.Path.{_≡_, subst, subst₂}
 use Prim.Native.Nat.{ℕ, _+_, _-_, _*_, _/_, _%_, _≤_, _<_}
 use native.Mathlib.Nat.{add-mul, mod-lt, div-add-mod', div-lt-iff-lt-mul, le-div-iff-mul-le}
 use native.Mathlib.Omega.{arith}
@@ -10,14 +10,14 @@ use Rattle.maths.specs.Tests.{pick, below}
 use Rattle.maths.specs.Lists.{span}
 use Rattle.maths.specs.Sums.{sumL}
 use Rattle.codes.specs.Tables.{prototypes, thetas, phis}
-use Rattle.codes.specs.Codes.{Known, tcCodes, TM, rows, rowOf, bitsIn, tables}
+use Rattle.codes.specs.Codes.{tcCodes, TM, rows, rowOf, bitsIn, tables}
 use Rattle.codes.specs.Blocks.{blockOf, cellBlocks, rowBlocks, lastRows}
-use Rattle.codes.specs.Edges.{Edge, blocksOf, edges}
+use Rattle.codes.specs.Edges.{blocksOf, edges}
 use Rattle.codes.specs.Equations.{bitsOf, par}
 use Rattle.codes.proofs.Codes.{tmCodes, tm-at}
 use Rattle.matrices.specs.Circulants.{edgesOf, circulantOf, circs, circsAt, blockCircs}
 use Rattle.matrices.proofs.Sizes.{bitBlocks, sizes}
-use Rattle.matrices.proofs.Circulants.{edges-circs}
+use Rattle.matrices.proofs.Circulants.{edges-circs, of-edges}
 use Rattle.bit_flip.specs.Erasures.{fromOn}
 use Rattle.bit_flip.specs.Outcome.{punctured}
 use Rattle.telemetry.specs.Completion.{aloneOf, thirdRow, lone}
@@ -68,6 +68,6 @@ module _ (code : ℕ) (tm : TM code) (v : ℕ) (h : rowOf code .n ≤ v) (h′ :
   lone-sum w =
       let (low, bit, check) = place in
       let a = lone-block b (sentBlocks code) (bitBlocks code) pos (puncturedBlocks code) (thirdBlock code) (circs code) (tm-at aloneIn alone-holds code tm) from (v % b) low (mod-lt v pos) w in
-      subst (λ (es : List Edge). par es (λ u. pick (punctured code u) (w u) 0) (lone code v) ≡ w v) (sym (edges-circs code (tm .1)))
-      (subst₂ (λ (x y : ℕ). par (edgesOf b (circs code)) (λ u. pick (fromOn x y u) (w u) 0) (lone code v) ≡ w v) (cut code (tm .1) .sent) (sizes code (tm .1) .bit-blocks)
+      of-edges code (tm .1) (λ es m n k. par es (λ u. pick (fromOn (rowOf code .n) n u) (w u) 0) (lone code v) ≡ w v)
+      (subst (λ (x : ℕ). par (edgesOf b (circs code)) (λ u. pick (fromOn x (bitBlocks code * b) u) (w u) 0) (lone code v) ≡ w v) (cut code (tm .1) .sent)
       (subst₂ (λ (x y : ℕ). par (edgesOf b (circs code)) (λ u. pick (fromOn (sentBlocks code * b) (bitBlocks code * b) u) (w u) 0) x ≡ w y) check bit a))

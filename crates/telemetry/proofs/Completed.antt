@@ -9,7 +9,7 @@ use lib.Dec.{ltb}
 use lib.Arith.{digits-lt}
 use borrow.Author.Tests.{ltb-false, lt-ltb, le-leb, lt-leb}
 use Rattle.maths.specs.Tests.{pick}
-use Rattle.maths.specs.Sums.{sumL, sumN}
+use Rattle.maths.specs.Sums.{sumL}
 use Rattle.maths.proofs.Sums.{sumL-split, sumN-ext}
 use Rattle.codes.specs.Codes.{Known, TM, rowOf, bitsIn, checksIn, generatorOf}
 use Rattle.codes.specs.Edges.{edges}
@@ -19,10 +19,10 @@ use Rattle.matrices.specs.Circulants.{circulantOf, circs}
 use Rattle.matrices.specs.Frames.{adds, parity, frame, generator, frameOf}
 use Rattle.matrices.specs.Generators.{systematic}
 use Rattle.matrices.proofs.Sizes.{dataBlocks, checkBlocks, sizes}
+use Rattle.matrices.proofs.Circulants.{of-edges}
 use Rattle.matrices.proofs.Edges.{hold-sum, par-below, meets-same}
 use Rattle.matrices.proofs.Generators.{frame-product}
 use Rattle.matrices.proofs.Turning.{row-meets}
-use Rattle.matrices.proofs.Telecommand.{of-edges}
 use Rattle.bit_flip.specs.Outcome.{punctured}
 use Rattle.telemetry.specs.Completion.{lone, sentParity, completion}
 use Rattle.telemetry.proofs.Sizes.{parityBlocks, wordsOf, cut}

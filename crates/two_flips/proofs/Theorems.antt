@@ -22,10 +22,9 @@ use Rattle.codes.proofs.Flat.{edges-ranged}
 use Rattle.matrices.specs.Circulants.{Circ, circulantOf, circs, edgesOf}
 use Rattle.matrices.specs.Counts.{count}
 use Rattle.matrices.proofs.Sizes.{checkBlocks, bitBlocks, sizes}
-use Rattle.matrices.proofs.Circulants.{edges-circs}
+use Rattle.matrices.proofs.Circulants.{edges-circs, of-edges}
 use Rattle.matrices.proofs.Edges.{Ranged}
 use Rattle.matrices.proofs.Once.{once}
-use Rattle.matrices.proofs.Telecommand.{of-edges}
 use Rattle.low_weights.proofs.Occurs.{delta-apart}
 use Rattle.bit_flip.specs.Flip.{passes}
 use Rattle.bit_flip.specs.Steps.{Bits}
