@@ -7,10 +7,10 @@ use native.Mathlib.Nat.{add-zero}
 use native.Mathlib.Decide.{ℕ-discrete}
 use native.Mathlib.Omega.{arith}
 use borrow.Author.Tests.{ne-eqb}
-use lib.ListN.{length}
+use lib.ListN.{length, replicate}
 use Rattle.maths.specs.Bytes.{Bytes}
 use Rattle.maths.proofs.Bytes.{length-pack, bytes-pack}
-use Rattle.codes.specs.Codes.{TM, rowOf, checksIn}
+use Rattle.codes.specs.Codes.{TM, rowOf, bitsIn, checksIn}
 use Rattle.codes.specs.Edges.{edges}
 use Rattle.codes.specs.Equations.{wordOf, holds}
 use Rattle.report.specs.declared.Report.{Report}
@@ -18,13 +18,13 @@ use Rattle.report.specs.Report.{refusal, ending}
 use Rattle.bit_flip.specs.Flip.{flipped, pass, passes}
 use Rattle.bit_flip.specs.Erasures.{erasurePasses}
 use Rattle.bit_flip.specs.Outcome.{Outcome, left, decodeWord, received, punctured, decoded, outcome}
-use Rattle.bit_flip.proofs.Theorems.{is-accepted, success-meets, clean}
+use Rattle.bit_flip.proofs.Theorems.{answerOf, is-accepted, success-meets, clean}
 use Rattle.telemetry.specs.Completion.{completionBytes, Completes}
-use Rattle.telemetry.proofs.Clean.{clean-completion}
+use Rattle.telemetry.proofs.Clean.{unchanged}
 use Rattle.agreement.specs.Parties.{Sent}
 use Rattle.agreement.specs.Demands.{Told, told, DecodesByTable, SuccessMeets, FrameReturns, FrameCompletes, CountsPasses, DecodesAs}
 use Rattle.agreement.specs.Ours.{Hard, bitFlip, flippedIn, bitFlipping}
-use Rattle.agreement.proofs.Sender.{sent-bytes, sent-meets, sent-completes, completion-meets}
+use Rattle.agreement.proofs.Sender.{of-message, sent-bytes, sent-meets, sent-completes}
 use Rattle.agreement.proofs.Counting.{run-counted}
 
 -- a call is accepted, or refused by a number
@@ -76,7 +76,9 @@ pub bit-flip-telemetry : (code : ℕ) (b : Hard) (limit : ℕ) → TM code → S
     → bitFlip code b limit ≡ told (ending true 0) (completionBytes code (b .input))
 bit-flip-telemetry code b limit tm sent h k =
     ap (λ (x : Outcome). told (x .report) (x .output))
-    (clean-completion code tm (b .input) (b .output) (b .working) limit h (completion-meets sent tm) k)
+    (of-message sent (λ s. answerOf code s (b .output) (b .working) ≡ 0
+    → outcome code s (b .output) (b .working) limit ≡ left (ending true 0) (completionBytes code s) (replicate (bitsIn code) 0))
+    (λ msg bytes len e. unchanged code tm msg len (b .output) (b .working) limit e k) h)
 
 pub bit-flip-completes : FrameCompletes bitFlipping bitFlip
 bit-flip-completes code b limit tm sent h k =

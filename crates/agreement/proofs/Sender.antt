@@ -1,7 +1,7 @@
 -- What an encoder that accepts leaves is the frame of its message: `encode` and `copy_encode` meet the demands, and so does what is sent. Assumes nothing.
 use mathlib.Core.Bool.{Bool, true, false, not}
 use mathlib.Core.List.{List}
-use mathlib.Core.Path.{_≡_, refl, sym, ap, _∙_}
+use mathlib.Core.Path.{_≡_, refl, sym, ap, _∙_, subst}
 use Prim.Native.Nat.{ℕ, suc, _/_, _≤_, _<_}
 use native.Mathlib.Omega.{arith}
 use borrow.Author.Tests.{ltb-true, eqb-true, eq-eqb, not-false}
@@ -17,7 +17,7 @@ use Rattle.codes.specs.Equations.{Meets}
 use Rattle.matrices.specs.Frames.{frameOf, encodedBytes}
 use Rattle.matrices.proofs.Sizes.{sizes}
 use Rattle.matrices.proofs.Encoded.{encoded-meets, encoded-length, encoded-bytes, encoded-bits}
-use Rattle.telemetry.specs.Completion.{completion, completionBytes, Completes}
+use Rattle.telemetry.specs.Completion.{completionBytes, Completes}
 use Rattle.telemetry.proofs.Clean as clean
 use Rattle.encoder.specs.Outcomes.{Encoded, encoded, encodeOutcome, copyEncodeOutcome}
 use Rattle.agreement.specs.Parties.{Sent, by-encode, by-copy-encode}
@@ -110,28 +110,22 @@ sent-message {code} (by-copy-encode answer m s bytes e z) =
     record { message = m; bytes = bytes; frames = stands e (copy-frames code m s (answered e z)) }
 
 module _ {code : ℕ} {frame : List ℕ} (sent : Sent code frame) where
-  pub sent-length : length frame ≡ rowOf code .n / 8
-  sent-length =
+  -- what holds of the frame of every message holds of what is sent
+  pub of-message : (P : List ℕ → Type 0) → ((msg : List ℕ) → Bytes msg → length msg ≡ rowOf code .k / 8 → P (encodedBytes code msg)) → P frame
+  of-message P holds =
       let m = sent-message sent in
-      let f = m .frames in
-      rw (f .is) (encoded-length code (f .is-known) (m .message) (f .long))
+      subst P (sym (m .frames .is)) (holds (m .message) (m .bytes) (m .frames .long))
+
+  pub sent-length : length frame ≡ rowOf code .n / 8
+  sent-length = of-message (λ s. length s ≡ rowOf code .n / 8) (λ msg bytes len. encoded-length code (sent-message sent .frames .is-known) msg len)
 
   pub sent-bytes : Bytes frame
-  sent-bytes = let m = sent-message sent in rw (m .frames .is) (encoded-bytes code (m .message) (m .bytes))
+  sent-bytes = of-message Bytes (λ msg bytes len. encoded-bytes code msg bytes)
 
   -- of a TC code it meets every equation
   pub sent-meets : TC code → Meets code (bitAt frame)
   sent-meets = frames-meets (sent-message sent .frames)
 
-  -- of a TM code it has a completion, which does
+  -- of a TM code it has a completion
   pub sent-completes : TM code → Completes code frame (completionBytes code frame)
-  sent-completes tm =
-      let m = sent-message sent in
-      let f = m .frames in
-      rw (f .is) (clean.sent-completes code tm (m .message) (f .long))
-
-  pub completion-meets : TM code → Meets code (completion code (bitAt frame))
-  completion-meets tm =
-      let m = sent-message sent in
-      let f = m .frames in
-      rw (f .is) (clean.sent-meets code tm (m .message) (f .long))
+  sent-completes tm = of-message (λ s. Completes code s (completionBytes code s)) (λ msg bytes len. clean.sent-completes code tm msg len)

@@ -19,7 +19,7 @@ use Rattle.maths.specs.Lists.{span}
 use Rattle.maths.specs.Budget.{stop, go, End, run}
 use Rattle.maths.proofs.Tests.{pick-both}
 use Rattle.maths.proofs.Lists.{span-length}
-use Rattle.maths.proofs.Slices.{span-get, span-padded}
+use Rattle.maths.proofs.Slices.{span-whole, span-padded}
 use Rattle.maths.proofs.Bytes.{bitAt-past, length-pack, bitAt-pack, pack-own, pack-again}
 use Rattle.maths.proofs.Budget.{run-success, run-kept, run-at-once}
 use Rattle.codes.specs.Answers.{firstOf}
@@ -159,12 +159,7 @@ success-meets code input output working limit e =
 
 -- ---- the bits of a byte string that is long enough
 pub received-word : (s : List ℕ) (t : ℕ) → 8 * length s ≤ t → wordOf (span (bitAt s) 0 t) ≡ bitAt s
-received-word s t h = fun-ext (λ v. at v (decLt v t))
-  where
-    at : (v : ℕ) → Dec (v < t) → wordOf (span (bitAt s) 0 t) v ≡ bitAt s v
-    at v (yes k) = span-get (bitAt s) 0 t v k
-    at v (no k) =
-        List·getD-eq-default (span (bitAt s) 0 t) 0 (omega (arith, span-length (bitAt s) 0 t)) ∙ sym (bitAt-past s v (omega arith))
+received-word s t h = span-whole (bitAt s) t (λ v k. bitAt-past s v (omega arith))
 
 -- no bit of a TC code is erased: a call leaves what the passes make of the word received
 module _ (code : ℕ) (tc : TC code) (limit : ℕ) (input : List ℕ) where

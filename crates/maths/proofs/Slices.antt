@@ -1,6 +1,6 @@
 -- A list that a loop reads or rewrites from its first element on, and its largest number. Assumes nothing.
 use mathlib.Core.List.{List, [], _∷_, _++_, map, append-nil, append-assoc}
-use mathlib.Core.Path.{_≡_, refl, sym, ap, _∙_, subst}
+use mathlib.Core.Path.{_≡_, refl, sym, ap, _∙_, subst, fun-ext}
 use Prim.Native.Nat.{ℕ, zero, suc, _+_, _-_, _≤_, _<_, max}
 use native.Mathlib.Nat.{add-zero, zero-add, max-zero, le-of-suc-le-suc, not-suc-le-zero}
 use native.Mathlib.Numerals.{add-one}
@@ -17,6 +17,14 @@ use Rattle.maths.proofs.Lists.{span-split, span-length, getD-span}
 -- ---- what stands in a span
 pub span-get : {A : Type 0} (f : ℕ → A) (d : A) (n i : ℕ) → i < n → getD (span f 0 n) i d ≡ f i
 span-get f d n i h = getD-span f 0 n i d h ∙ rw zero-add
+
+-- and past its end, where f is 0
+pub span-whole : (f : ℕ → ℕ) (n : ℕ) → ((v : ℕ) → n ≤ v → f v ≡ 0) → (λ v. getD (span f 0 n) v 0) ≡ f
+span-whole f n past = fun-ext (λ v. at v (decLt v n))
+  where
+    at : (v : ℕ) → Dec (v < n) → getD (span f 0 n) v 0 ≡ f v
+    at v (yes h) = span-get f 0 n v h
+    at v (no h) = List·getD-eq-default (span f 0 n) 0 (omega (arith, span-length f 0 n)) ∙ sym (past v (omega arith))
 
 -- a list with these elements
 pub span-is : (l : List ℕ) (f : ℕ → ℕ) (n : ℕ) → length l ≡ n → ((i : ℕ) → i < n → getD l i 0 ≡ f i) → l ≡ span f 0 n

@@ -1,14 +1,13 @@
 -- An unchanged frame of a TM code: it has exactly one completion, and bit flipping returns it with (true, 0). Assumes nothing.
 use mathlib.Core.Bool.{true}
 use mathlib.Core.List.{List}
-use mathlib.Core.Path.{_≡_, sym, ap, ap₂, _∙_, fun-ext}
+use mathlib.Core.Path.{_≡_, sym, ap, ap₂, _∙_}
 use Prim.Native.Nat.{ℕ, _-_, _*_, _/_, _%_, _^_, _≤_, _<_}
 use native.Mathlib.Nat.{mod-mod, mod-eq-of-lt}
-use native.Mathlib.Decide.{decLt}
 use native.Mathlib.Omega.{arith}
 use borrow.Author.Tests.{le-ltb, lt-leb}
 use lib.Dec.{leb}
-use lib.ListN.{length, take, length-take, replicate, List·getD-eq-default}
+use lib.ListN.{length, take, length-take, replicate}
 use lib.Seq.{length-take-le, getD-take}
 use Rattle.maths.specs.Bits.{bitAt}
 use Rattle.maths.specs.Bytes.{Bytes}
@@ -16,7 +15,7 @@ use Rattle.maths.specs.Lists.{span}
 use Rattle.maths.specs.Budget.{stop}
 use Rattle.maths.proofs.Tests.{both-false}
 use Rattle.maths.proofs.Lists.{span-length}
-use Rattle.maths.proofs.Slices.{span-get}
+use Rattle.maths.proofs.Slices.{span-whole}
 use Rattle.maths.proofs.Bytes.{bitAt-low, bitAt-past, length-pack, bytes-pack, bitAt-pack, bits-same}
 use Rattle.maths.proofs.Budget.{run-at-once}
 use Rattle.codes.specs.Codes.{Known, TM, rowOf, bitsIn, checksIn}
@@ -50,13 +49,9 @@ module _ (code : ℕ) (tm : TM code) where
     full = span (completion code (bitAt input)) 0 (bitsIn code)
 
     full-word : wordOf full ≡ completion code (bitAt input)
-    full-word = fun-ext (λ v. at v (decLt v (bitsIn code)))
-      where
-        at : (v : ℕ) → Dec (v < bitsIn code) → wordOf full v ≡ completion code (bitAt input) v
-        at v (yes h) = span-get (completion code (bitAt input)) 0 (bitsIn code) v h
-        at v (no h) =
-            List·getD-eq-default full 0 (omega (arith, span-length (completion code (bitAt input)) 0 (bitsIn code)))
-            ∙ rw (le-ltb v (bitsIn code) (omega arith), both-false (leb (rowOf code .n) v)) (sym (bitAt-past input v (omega (arith, fits))))
+    full-word =
+        span-whole (completion code (bitAt input)) (bitsIn code)
+        (λ v h. rw (le-ltb v (bitsIn code) h, both-false (leb (rowOf code .n) v)) (bitAt-past input v (omega (arith, fits))))
 
     -- whatever was received, it gives its completion and counts 0
     pub erasures-end : (limit : ℕ) → 1 ≤ limit
@@ -124,10 +119,6 @@ module _ (code : ℕ) (tm : TM code) where
           meets = meets-same code known (completion code (bitAt sent)) (bitAt (completionBytes code sent))
               (λ v h. sym (ap (λ (x : ℕ). x % 2) (at v h) ∙ mod-mod (completion code (bitAt sent) v) 2)) sent-meets;
         }
-
-    -- and no other
-    pub sent-completes-once : (word : List ℕ) → Completes code sent word → word ≡ completionBytes code sent
-    sent-completes-once word c = completes-once sent word (completionBytes code sent) c sent-completes
 
     -- unchanged, with limit 1 or more, bit flipping returns it with (true, 0)
     pub unchanged : (output working : List ℕ) (limit : ℕ) → answerOf code sent output working ≡ 0 → 1 ≤ limit

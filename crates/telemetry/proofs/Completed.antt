@@ -2,7 +2,7 @@
 use mathlib.Core.Bool.{Bool, true, false}
 use mathlib.Core.Path.{_≡_, refl, sym, ap, _∙_}
 use Prim.Native.Nat.{ℕ, _+_, _-_, _*_, _/_, _%_, _≤_, _<_}
-use native.Mathlib.Nat.{mod-lt, mod-mod, div-lt-iff-lt-mul}
+use native.Mathlib.Nat.{mod-lt, mod-eq-of-lt, div-lt-iff-lt-mul}
 use native.Mathlib.Decide.{decLt}
 use native.Mathlib.Omega.{arith}
 use lib.Dec.{ltb}
@@ -27,7 +27,7 @@ use Rattle.bit_flip.specs.Outcome.{punctured}
 use Rattle.telemetry.specs.Completion.{lone, sentParity, completion}
 use Rattle.telemetry.proofs.Sizes.{parityBlocks, wordsOf, cut}
 use Rattle.telemetry.proofs.Alone.{lone-sum}
-use Rattle.telemetry.proofs.Votes.{where-punctured}
+use Rattle.telemetry.proofs.Votes.{sent-parity-low, where-punctured}
 use Rattle.telemetry.proofs.Filled.{genList, rows-tested, sent-same}
 use Rattle.telemetry.proofs.Tests.{loneRows, blocksAt, rows-complete}
 
@@ -119,7 +119,7 @@ module _ (code : ℕ) (tm : TM code) where
     own-completion = go (punctured code v) refl
       where
         go : (x : Bool) → punctured code v ≡ x → w v % 2 ≡ pick x (sentParity code w (lone code v)) (w v) % 2
-        go true p = punctured-bit p ∙ sym (mod-mod (sumL (bitsOf (edges code) (lone code v)) (λ u. pick (punctured code u) 0 (w u))) 2)
+        go true p = punctured-bit p ∙ sym (mod-eq-of-lt (sent-parity-low code w (lone code v)))
         go false p = refl
 
   -- two words that meet the equations and agree on the bits that are sent agree on all: "exactly one completion"

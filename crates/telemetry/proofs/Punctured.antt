@@ -45,7 +45,7 @@ module _ (nb tb : ℕ) where
   abbrev pub aloneIn : List Circ → ℕ → List Circ
   aloneIn ks p = keep (λ k. eqb (length (punct (inRow ks (k .row)))) 1) (inColumn ks p)
 
-  -- "every punctured bit has a check with no other punctured edge": for each of pb punctured columns it is in the row r further down, and there alone
+  -- "every punctured bit has a check with no other punctured edge": of pb punctured columns the first has it in the row r, each further one a row below
   abbrev pub aloneTest : ℕ → ℕ → List Circ → Bool
   aloneTest pb r ks =
       below pb (λ j. both (single (r + j) (nb + j) (aloneIn ks (nb + j))) (single (r + j) (nb + j) (punct (inRow ks (r + j)))))

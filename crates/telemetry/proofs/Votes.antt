@@ -54,11 +54,11 @@ module _ (code : ℕ) (tm : TM code) (w : List ℕ) where
         ∙ ap (λ (vs : List ℕ). sumL vs g) (alone-one code tm v h h′)
         ∙ omega arith
 
-    pub one-aye : for v ≡ sentParity code (wordOf w) (lone code v)
+    one-aye : for v ≡ sentParity code (wordOf w) (lone code v)
     unfolding ayes others
     one-aye = one-term (others (punctured code) (edges code) w)
 
-    pub one-nay : against v ≡ 1 - sentParity code (wordOf w) (lone code v)
+    one-nay : against v ≡ 1 - sentParity code (wordOf w) (lone code v)
     unfolding nays others
     one-nay = one-term (λ a. 1 - others (punctured code) (edges code) w a)
 

@@ -1,1 +1,1 @@
-// The codes of which some bits are not sent: how a frame is completed by these, in specs/ and proofs/. No function.
+// An unchanged TM frame has one completion, and bit flipping returns it: in specs/ and proofs/, no function.
