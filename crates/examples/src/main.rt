@@ -1,5 +1,5 @@
 // The examples of document 01 that are run, and those of the Rust's documentation: TC128, data 00 to 07. A call that is refused leaves
-// the buffer as it was.
+// the buffer as it was. At the end a frame of TM1280, unchanged.
 use codes::ACCEPTED;
 use libc::STDOUT_FILENO;
 use report::Report;
@@ -78,6 +78,14 @@ fn softs(frame: &[u8]) {
     soft(7, frame, &mut [0xffu8; 17], &mut [0i8; 1279], &mut [0u8; 9]);
 }
 
+// What was sent, then the bits that were not.
+fn completed() {
+    let mut frame = [0u8; 160];
+    frame[0] = 0x80;
+    in_place(3, &mut frame);
+    flip(3, &frame, &mut [0xffu8; 176], &mut [0u8; 1408]);
+}
+
 fn main() {
     encodes();
     let mut frame = [0u8; 16];
@@ -86,4 +94,5 @@ fn main() {
     frame[0] = 0x55;
     flips(&frame);
     softs(&frame);
+    completed();
 }
