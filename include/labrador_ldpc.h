@@ -55,8 +55,9 @@ uint8_t ldpc_copy_encode(size_t code, const uint8_t *data, size_t data_len, uint
 /* Bit flipping. input: n/8 bytes; output: output_len bytes; working: decode_bf_working_len bytes. *success becomes 1
  * where the output meets every parity equation at the start of pass *iters, counted from 0; else it becomes 0 and
  * *iters maxiters. The output is written in both cases. A TC frame with one flipped bit is put right if maxiters is 2
- * or more, with two if it is 4 or more. An unchanged frame comes back with *iters 0 if maxiters is 1 or more: n/8 bytes
- * of the output are the frame, and of a TM code the rest are its punctured bits, as the parity equations have them. */
+ * or more, with two if it is 4 or more. An unchanged frame comes back with *success 1 and *iters 0 if maxiters is
+ * 1 or more: the first n/8 bytes of the output are the frame; of a TM code the others are its punctured bits, the only
+ * ones with which every parity equation holds. */
 uint8_t ldpc_decode_bf(size_t code, const uint8_t *input, size_t input_len, uint8_t *output, size_t output_len,
                        uint8_t *working, size_t working_len, size_t maxiters, uint8_t *success, size_t *iters);
 

@@ -36,10 +36,10 @@ pub fn decode_ms_both(i: usize, code: LDPCCode, input: &[i8], most: usize, dice:
     (success, iters, ours)
 }
 
-/// Ends the comparison where what both libraries left is not what was promised of the case.
-pub fn hold(what: &str, code: LDPCCode, case: impl Debug, left: impl Debug, promised: impl Debug, kept: bool) {
+/// Ends the comparison where what was found is not what was promised of the case.
+pub fn hold(what: &str, code: LDPCCode, case: impl Debug, found: impl Debug, promised: impl Debug, kept: bool) {
     if !kept {
-        println!("DIFFERENCE from what is promised: {what} of {code:?}\ncase {case:?}\nleft {left:?}\npromised {promised:?}");
+        println!("DIFFERENCE from what is promised: {what} of {code:?}\ncase {case:?}\nfound {found:?}\npromised {promised:?}");
         std::process::exit(1)
     }
 }
@@ -48,18 +48,18 @@ pub fn hold_to(what: &str, code: LDPCCode, case: impl Debug, left: &Left, promis
     hold(what, code, case, left, promised, left == promised)
 }
 
-/// How often the word that is promised came back, by iteration, and what else came.
+/// How often the wanted word came back, by iteration, and what else came.
 #[derive(Default)]
 pub struct Returned {
-    pub at: [usize; 4],
+    at: [usize; 4],
     later: usize,
     another: usize,
     none: usize,
 }
 
 impl Returned {
-    pub fn add(&mut self, (success, iters, output): &Left, promised: &[u8]) {
-        match (success, output == promised, iters) {
+    pub fn add(&mut self, (success, iters, output): &Left, wanted: &[u8]) {
+        match (success, output == wanted, iters) {
             (true, true, 0..=3) => self.at[*iters] += 1,
             (true, true, _) => self.later += 1,
             (true, false, _) => self.another += 1,
@@ -67,12 +67,11 @@ impl Returned {
         }
     }
 
-    pub fn cases(&self) -> usize {
-        self.at.iter().sum::<usize>() + self.later + self.another + self.none
-    }
-
-    /// The cells of a row after those of the first iterations.
-    pub fn others(&self) -> String {
-        format!("{} | {} | {} |", self.later, self.another, self.none)
+    /// Prints a row, its first cells given, and the iterations from the given one on; gives the number of cases.
+    pub fn show(&self, cells: &str, from: usize) -> usize {
+        let cases = self.at.iter().sum::<usize>() + self.later + self.another + self.none;
+        let at: String = self.at[from..].iter().map(|n| format!("{n} | ")).collect();
+        println!("| {cells} | {cases} | {at}{} | {} | {} |", self.later, self.another, self.none);
+        cases
     }
 }

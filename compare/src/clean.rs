@@ -3,7 +3,7 @@ use crate::both::*;
 use compare::*;
 use labrador_ldpc::LDPCCode;
 
-/// For each bit that is not sent the other bits of the one check that has no second such edge.
+/// For each bit that is not sent, the sent bits of the one check that has an edge to it and to no other such bit.
 fn lone_checks(code: LDPCCode) -> Vec<Vec<usize>> {
     let mut checks = vec![vec![]; code.n() + code.punctured_bits() - code.k()];
     code.iter_paritychecks().for_each(|(check, bit)| checks[check].push(bit));
@@ -35,13 +35,6 @@ fn meets(code: LDPCCode, word: &[u8]) -> bool {
     !odd.contains(&true)
 }
 
-/// Prints the row and gives the number of cases.
-fn show(returned: &Returned, code: LDPCCode, decoder: &str) -> usize {
-    let [zero, one, two, three] = returned.at;
-    println!("| {code:?} | {decoder} | {} | {zero} | {one} | {two} | {three} | {}", returned.cases(), returned.others());
-    returned.cases()
-}
-
 /// Bit flipping returns the frame completed, at 0, with limits from 1 on. Of min-sum nothing is promised: every tenth frame shows what it does.
 fn compare_code(i: usize, code: LDPCCode, cases: usize, dice: &mut Dice) -> usize {
     let lone = lone_checks(code);
@@ -59,7 +52,7 @@ fn compare_code(i: usize, code: LDPCCode, cases: usize, dice: &mut Dice) -> usiz
             soft.add(&decode_ms_both(i, code, &confident(&frame, 1), 20, dice), &whole);
         }
     }
-    show(&hard, code, "decode_bf") + show(&soft, code, "decode_ms i8")
+    hard.show(&format!("{code:?} | decode_bf"), 0) + soft.show(&format!("{code:?} | decode_ms i8"), 0)
 }
 
 /// Random frames of each TM code, unchanged.

@@ -4,13 +4,6 @@ use compare::*;
 use labrador_ldpc::LDPCCode;
 use std::ops::RangeInclusive;
 
-/// Prints the row and gives the number of cases.
-fn show(returned: &Returned, code: LDPCCode, flips: usize, decoder: &str) -> usize {
-    let [_, one, two, three] = returned.at;
-    println!("| {code:?} | {flips} | {decoder} | {} | {one} | {two} | {three} | {}", returned.cases(), returned.others());
-    returned.cases()
-}
-
 /// The checks of each bit, once for each edge.
 fn checks_of_bits(code: LDPCCode) -> Vec<Vec<usize>> {
     let mut checks = vec![vec![]; code.n()];
@@ -54,7 +47,7 @@ fn compare_one(i: usize, code: LDPCCode, dice: &mut Dice) -> usize {
             hold_to("decode_ms with limit 1", code, [bit], &late, &(false, 1, word.clone()));
         }
     }
-    show(&hard, code, 1, "decode_bf") + show(&soft, code, 1, "decode_ms i8")
+    hard.show(&format!("{code:?} | 1 | decode_bf"), 1) + soft.show(&format!("{code:?} | 1 | decode_ms i8"), 1)
 }
 
 /// Two bits: bit flipping returns the frame at the iteration that their edges give, and does not claim it with that number as the limit.
@@ -74,7 +67,7 @@ fn compare_two(i: usize, code: LDPCCode, pairs: &[(usize, usize)], dice: &mut Di
         hold_to("decode_bf with the limit spent", code, [x, y], &late, &(false, iters, frame.clone()));
         soft.add(&decode_ms_both(i, code, &confident(&word, 1), 20, dice), &frame);
     }
-    show(&hard, code, 2, "decode_bf") + show(&soft, code, 2, "decode_ms i8")
+    hard.show(&format!("{code:?} | 2 | decode_bf"), 1) + soft.show(&format!("{code:?} | 2 | decode_ms i8"), 1)
 }
 
 /// Three bits: nothing is promised but that a success meets the equations.
@@ -86,7 +79,7 @@ fn compare_three(i: usize, code: LDPCCode, cases: usize, dice: &mut Dice) -> usi
         hard.add(&decode_bf_both(i, code, &word, 20, dice), &frame);
         soft.add(&decode_ms_both(i, code, &confident(&word, 1), 20, dice), &frame);
     }
-    show(&hard, code, 3, "decode_bf") + show(&soft, code, 3, "decode_ms i8")
+    hard.show(&format!("{code:?} | 3 | decode_bf"), 1) + soft.show(&format!("{code:?} | 3 | decode_ms i8"), 1)
 }
 
 /// Random bits of which no two are the same.

@@ -6,11 +6,12 @@ use Prim.Native.Nat.{ℕ, suc, _/_, _≤_, _<_}
 use native.Mathlib.Omega.{arith}
 use borrow.Author.Tests.{ltb-true, eqb-true, eq-eqb, not-false}
 use lib.Dec.{eqb, ltb}
-use lib.ListN.{length, take, length-take}
-use lib.Seq.{length-take-le, getD-take}
+use lib.ListN.{length, take}
+use lib.Seq.{length-take-le}
 use Rattle.maths.specs.Tests.{pick}
 use Rattle.maths.specs.Bits.{bitAt}
 use Rattle.maths.specs.Bytes.{Bytes}
+use Rattle.maths.proofs.Bytes.{bytes-take}
 use Rattle.codes.specs.Answers.{unlike}
 use Rattle.codes.specs.Codes.{codes, Known, known, TC, TM, rowOf}
 use Rattle.codes.specs.Equations.{Meets}
@@ -89,11 +90,6 @@ pub record Message (code : ℕ) (frame : List ℕ) : Type 0 where
   pub message : List ℕ
   pub bytes : Bytes message
   pub frames : Frames code message frame
-
-bytes-take : (n : ℕ) (s : List ℕ) → length (take n s) ≡ n → Bytes s → Bytes (take n s)
-bytes-take n s e b i l =
-    let k : i < n = omega arith in
-    rw (getD-take n s i 0 k) (b i (omega (arith, length-take n s)))
 
 -- what stands in the codeword is the frame
 stands : {code a : ℕ} {m frame : List ℕ} {x : Encoded} → encoded a frame ≡ x → Frames code m (x .codeword) → Frames code m frame

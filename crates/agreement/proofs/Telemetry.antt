@@ -1,4 +1,5 @@
--- Sender and receiver of a TM code: a sent frame has exactly one completion, bit flipping returns it, and no idle version does. Assumes nothing.
+-- Sender and receiver of a TM code: a sent frame has exactly one completion, and bit flipping returns it. One that fails, rests, copies or has one
+-- answer does not. Assumes nothing.
 use mathlib.Core.Bool.{true}
 use mathlib.Core.List.{List, _∷_}
 use mathlib.Core.Path.{_≡_, refl, ap, _∙_}

@@ -115,7 +115,7 @@ pub record NoIdleCorrector {B : Type 0} (calls : Receiving B) (plain : B → Typ
       → TC code → Sent code frame → calls .answer code b ≡ 0 → plain b → distance frame (calls .word b) ≡ 1 → 2 ≤ limit → number code b limit ≡ 1
   pub one-number : (n : ℕ) (d : Decoder B) → FewFlipsReturn calls plain 1 (renumbered (λ code b limit. n) d) → ⊥
 
--- ---- and none completes an unchanged frame of a TM code
+-- ---- nor do those that fail, rest, copy or have one answer complete an unchanged frame of a TM code; for that pass 0 is enough
 pub record NoIdleCompleter {B : Type 0} (calls : Receiving B) : Type 0 where
   -- never succeeding, and one fixed answer
   pub failing : (d : Decoder B) → FrameCompletes calls (fails d) → ⊥

@@ -30,7 +30,7 @@ use Rattle.codes.proofs.Codes.{roomy, tc-sent}
 use Rattle.codes.proofs.Parity.{holds-hold, hold-holds}
 use Rattle.report.specs.Report.{refusal, ending}
 use Rattle.bit_flip.specs.Flip.{flipped, pass, passes}
-use Rattle.bit_flip.specs.Erasures.{voted, erasurePasses}
+use Rattle.bit_flip.specs.Erasures.{voted, filled, erasurePasses}
 use Rattle.bit_flip.specs.Outcome.{left, decodeWord, received, punctured, decoded, tests, outcome}
 use Rattle.bit_flip.specs.Steps.{Bits}
 use Rattle.bit_flip.proofs.Scores.{flipped-length, flipped-bits}
@@ -56,7 +56,7 @@ module _ (es : List Edge) (m : ℕ) where
       by true h e = let q : s ≡ t = cc in (q, rw (← q) h)
       by false h e = absurd (let z : _≡_ {A = ℕ} 0 1 = cc in omega arith)
 
-  pub clean-pass : (s : List ℕ) → holds es m (wordOf s) ≡ true → pass es m s ≡ stop s
+  clean-pass : (s : List ℕ) → holds es m (wordOf s) ≡ true → pass es m s ≡ stop s
   unfolding pass
   clean-pass s e = rw e
 
@@ -181,21 +181,27 @@ module _ (code : ℕ) (tc : TC code) (limit : ℕ) (input : List ℕ) where
       (passes-length (edges code) (checksIn code) limit (received code input) ∙ span-length (bitAt input) 0 (bitsIn code) ∙ sym (roomy code (omega arith) .whole))
       (passes-bits (edges code) (checksIn code) limit (received code input) (received-bits input (bitsIn code) refl))
 
--- a TC word that meets the equations comes back with (true, 0), where maxiters is at least 1
+-- a call whose main passes begin with a word that meets the equations ends with it at once, where maxiters is at least 1
+pub ends-at-once : (code : ℕ) (input output working : List ℕ) (limit : ℕ) (s : List ℕ) → answerOf code input output working ≡ 0 → 1 ≤ limit
+    → erasurePasses (punctured code) (edges code) (rowOf code .«punctured_bits») limit (received code input) ≡ filled s 0 → Meets code (wordOf s)
+    → outcome code input output working limit ≡ left (ending true 0) (pack (wordOf s) (rowOf code .«output_len»)) (replicate (bitsIn code) 0)
+unfolding decoded decodeWord
+ends-at-once code input output working limit s e h begun meets =
+    let p = clean-pass (edges code) (checksIn code) s (hold-holds (edges code) (checksIn code) (wordOf s) meets) in
+    is-accepted code input output working limit e ∙ rw (begun, run-at-once (pass (edges code) (checksIn code)) limit s s h p)
+
+-- so a TC word that meets them comes back with (true, 0)
 pub clean : (code : ℕ) (input output working : List ℕ) (limit : ℕ) → TC code → answerOf code input output working ≡ 0 → Bytes input
     → Meets code (bitAt input) → 1 ≤ limit → outcome code input output working limit ≡ left (ending true 0) input (replicate (bitsIn code) 0)
 clean code input output working limit tc e bytes meets h =
-    let k = accepted-known code input output working limit e in
     let i = accepted-input code input output working limit e in
-    let r = roomy code k in
+    let r = roomy code (omega arith) in
     let z = tc-sent code tc in
     let l : 8 * length input ≡ bitsIn code = omega (arith, r .sent) in
     let o : rowOf code .«output_len» ≡ length input = omega (arith, r .whole) in
     let w : wordOf (received code input) ≡ bitAt input = received-word input (bitsIn code) (omega arith) in
-    let p : pass (edges code) (checksIn code) (received code input) ≡ stop (received code input) =
-    clean-pass (edges code) (checksIn code) (received code input) (rw w (hold-holds (edges code) (checksIn code) (bitAt input) meets)) in
-    outcome-is code tc limit input output working e
-    ∙ rw (run-at-once (pass (edges code) (checksIn code)) limit (received code input) (received code input) h p, o, w, pack-again input bytes)
+    let begun = sym (no-bits (punctured code) (edges code) (rowOf code .«punctured_bits») limit (received code input) z) in
+    ends-at-once code input output working limit (received code input) e h begun (subst (Meets code) (sym w) meets) ∙ rw (o, w, pack-again input bytes)
 
 -- with maxiters 0: (false, 0) and the input followed by zeros, whatever the input
 pub limit-none : (code : ℕ) (input output working : List ℕ) → answerOf code input output working ≡ 0 → Bytes input

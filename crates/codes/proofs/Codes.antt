@@ -80,7 +80,7 @@ tm-at test t code (low, high) =
     let e : tcCodes + (code - tcCodes) ≡ code = omega (arith, low) in
     subst (λ (c : ℕ). T (test c)) e (below-at tmCodes (λ c. test (tcCodes + c)) t (code - tcCodes) (omega (arith, low, high)))
 
--- and some bits of a TM code are not
+-- some bits of a TM code are not sent
 pub tm-punctured : (code : ℕ) → TM code → 0 < rowOf code .«punctured_bits»
 unfolding rows
 tm-punctured code tm = ltb→lt 0 (rowOf code .«punctured_bits») (tm-at (λ c. ltb 0 (rowOf c .«punctured_bits»)) tt code tm)

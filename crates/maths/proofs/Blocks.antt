@@ -1,9 +1,9 @@
--- Lists of numbers in blocks: added place by place, turned, cut; and numbers as lists of their bits. Assumes nothing.
+-- Blocks of numbers, added place by place and turned, and numbers as lists of their bits. Assumes nothing.
 use mathlib.Core.List.{List, [], _∷_, _++_}
 use mathlib.Core.Logic.{_⊎_, inl, inr}
 use mathlib.Core.Path.{_≡_, refl, sym, ap, ap₂, _∙_}
 use Prim.Native.Nat.{ℕ, zero, suc, _+_, _-_, _*_, _/_, _%_, _^_, _<_}
-use native.Mathlib.Nat.{add-zero, zero-add, add-suc, suc-add, suc-mul, zero-mul, pow-suc, mul-comm, le-of-suc-le-suc, not-suc-le-zero, mod-eq-of-lt, add-mod-right, div-div-eq-div-mul, div-one}
+use native.Mathlib.Nat.{add-zero, zero-add, add-suc, suc-add, suc-mul, pow-suc, mul-comm, not-suc-le-zero, mod-eq-of-lt, add-mod-right, div-div-eq-div-mul, div-one}
 use native.Mathlib.Decide.{ℕ-discrete, decLt}
 use native.Mathlib.Omega.{arith}
 use lib.ListN.{length, getD, take, drop, length-drop, List·getD-append}
@@ -44,23 +44,8 @@ getD-turnL b s l (inl e) hs t ht = go (decLt t (b - s))
         ∙ getD-take s l (t - (b - s)) 0 (omega arith)
         ∙ ap (λ (n : ℕ). getD l n 0) (sym (ap (λ (n : ℕ). n % b) g ∙ add-mod-right (t - (b - s)) b ∙ mod-eq-of-lt {n = t - (b - s)} {m = b} (omega arith)))
 
--- ---- cut into n blocks of b
-abbrev pub chunks : ℕ → ℕ → List ℕ → List (List ℕ)
-chunks b zero l = []
-chunks b (suc n) l = take b l ∷ chunks b n (drop b l)
-
-pub length-chunks : (b n : ℕ) (l : List ℕ) → length (chunks b n l) ≡ n
-length-chunks b zero l = refl
-length-chunks b (suc n) l = ap suc (length-chunks b n (drop b l))
-
-pub getD-chunks : (b n : ℕ) (l : List ℕ) (q y : ℕ) → q < n → y < b → getD (getD (chunks b n l) q []) y 0 ≡ getD l (q * b + y) 0
-getD-chunks b zero l q y h hy = absurd (not-suc-le-zero h)
-getD-chunks b (suc n) l zero y h hy = getD-take b l y 0 hy ∙ ap (λ (i : ℕ). getD l i 0) (sym (ap (λ (i : ℕ). i + y) (zero-mul b) ∙ zero-add y))
-getD-chunks b (suc n) l (suc q) y h hy =
-    getD-chunks b n (drop b l) q y (le-of-suc-le-suc h) hy ∙ getD-drop b l (q * b + y) 0 ∙ ap (λ (i : ℕ). getD l i 0) (omega (arith, suc-mul q b))
-
 -- ---- the n low bits of x, highest first, in front of a list
-abbrev pub bits : ℕ → ℕ → List ℕ → List ℕ
+abbrev bits : ℕ → ℕ → List ℕ → List ℕ
 bits zero x r = r
 bits (suc n) x r = bits n (x / 2) (x % 2 ∷ r)
 

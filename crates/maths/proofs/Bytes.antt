@@ -6,8 +6,8 @@ use native.Mathlib.Nat.{zero-add, mod-lt, mod-eq-of-lt, zero-div, div-one, div-a
 use native.Mathlib.Decide.{decLt}
 use native.Mathlib.Omega.{arith}
 use lib.Arith.{digits-lt, digits-div, digits-mod}
-use lib.ListN.{length, getD, replicate, length-append, List·getD-append, List·getD-eq-default}
-use lib.Seq.{ext-getD, getD-append-add}
+use lib.ListN.{length, getD, take, replicate, length-append, length-take, List·getD-append, List·getD-eq-default}
+use lib.Seq.{ext-getD, getD-append-add, getD-take}
 use Rattle.maths.specs.Lists.{span}
 use Rattle.maths.specs.Sums.{sumN}
 use Rattle.maths.specs.Bits.{bitAt}
@@ -127,6 +127,11 @@ bitAt-right s t v h =
     let e : v / 8 ≡ length s + (v - length s * 8) / 8 = omega arith in
     let f : v % 8 ≡ (v - length s * 8) % 8 = omega arith in
     rw (e, f, getD-append-add s t ((v - length s * 8) / 8) 0)
+
+pub bytes-take : (n : ℕ) (s : List ℕ) → length (take n s) ≡ n → Bytes s → Bytes (take n s)
+bytes-take n s e b i l =
+    let k : i < n = omega arith in
+    rw (getD-take n s i 0 k) (b i (omega (arith, length-take n s)))
 
 pub bytes-append : (s t : List ℕ) → Bytes s → Bytes t → Bytes (s ++ t)
 bytes-append s t hs ht i h = go (decLt i (length s))

@@ -25,10 +25,10 @@ use Rattle.telemetry.proofs.Sizes.{sentBlocks, puncturedBlocks, thirdBl
 use Rattle.telemetry.proofs.Punctured.{aloneTest, alone-block, lone-block}
 
 -- ---- the computed test
-abbrev aloneIn : ℕ → Bool
-aloneIn code = let ks = circs code in aloneTest (sentBlocks code) (bitBlocks code) (puncturedBlocks code) (thirdBlock code) ks
+abbrev allAlone : ℕ → Bool
+allAlone code = let ks = circs code in aloneTest (sentBlocks code) (bitBlocks code) (puncturedBlocks code) (thirdBlock code) ks
 
-alone-holds : T (below tmCodes (λ c. aloneIn (tcCodes + c)))
+alone-holds : T (below tmCodes (λ c. allAlone (tcCodes + c)))
 unfolding rows tables prototypes thetas phis circs flatMap blockCircs circsAt span blocksOf lastRows rowBlocks cellBlocks blockOf
 alone-holds = tt
 
@@ -60,14 +60,14 @@ module _ (code : ℕ) (tm : TM code) (v : ℕ) (h : rowOf code .n ≤ v) (h′ :
   pub alone-one : aloneOf code v ≡ lone code v ∷ []
   alone-one =
       let (low, bit, check) = place in
-      let a = alone-block b (sentBlocks code) (bitBlocks code) pos (puncturedBlocks code) (thirdBlock code) (circs code) (tm-at aloneIn alone-holds code tm) from (v % b) low (mod-lt v pos) in
+      let a = alone-block b (sentBlocks code) (bitBlocks code) pos (puncturedBlocks code) (thirdBlock code) (circs code) (tm-at allAlone alone-holds code tm) from (v % b) low (mod-lt v pos) in
       rw (cut code (tm .1) .sent, sizes code (tm .1) .bit-blocks, bit, check, ← edges-circs code (tm .1)) at a
 
-  -- and the punctured bits of that check are this bit
+  -- of the punctured bits that check has this one alone
   pub lone-sum : (w : ℕ → ℕ) → sumL (bitsOf (edges code) (lone code v)) (λ u. pick (punctured code u) (w u) 0) ≡ w v
   lone-sum w =
       let (low, bit, check) = place in
-      let a = lone-block b (sentBlocks code) (bitBlocks code) pos (puncturedBlocks code) (thirdBlock code) (circs code) (tm-at aloneIn alone-holds code tm) from (v % b) low (mod-lt v pos) w in
+      let a = lone-block b (sentBlocks code) (bitBlocks code) pos (puncturedBlocks code) (thirdBlock code) (circs code) (tm-at allAlone alone-holds code tm) from (v % b) low (mod-lt v pos) w in
       of-edges code (tm .1) (λ es m n k. par es (λ u. pick (fromOn (rowOf code .n) n u) (w u) 0) (lone code v) ≡ w v)
       (subst (λ (x : ℕ). par (edgesOf b (circs code)) (λ u. pick (fromOn x (bitBlocks code * b) u) (w u) 0) (lone code v) ≡ w v) (cut code (tm .1) .sent)
       (subst₂ (λ (x y : ℕ). par (edgesOf b (circs code)) (λ u. pick (fromOn (sentBlocks code * b) (bitBlocks code * b) u) (w u) 0) x ≡ w y) check bit a))

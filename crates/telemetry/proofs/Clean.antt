@@ -1,37 +1,33 @@
 -- An unchanged frame of a TM code: it has exactly one completion, and bit flipping returns it with (true, 0). Assumes nothing.
 use mathlib.Core.Bool.{true}
 use mathlib.Core.List.{List}
-use mathlib.Core.Path.{_≡_, sym, ap, ap₂, _∙_}
+use mathlib.Core.Path.{_≡_, sym, ap, ap₂, _∙_, subst}
 use Prim.Native.Nat.{ℕ, _-_, _*_, _/_, _%_, _^_, _≤_, _<_}
 use native.Mathlib.Nat.{mod-mod, mod-eq-of-lt}
 use native.Mathlib.Omega.{arith}
 use borrow.Author.Tests.{le-ltb, lt-leb}
 use lib.Dec.{leb}
-use lib.ListN.{length, take, length-take, replicate}
+use lib.ListN.{length, take, replicate}
 use lib.Seq.{length-take-le, getD-take}
 use Rattle.maths.specs.Bits.{bitAt}
-use Rattle.maths.specs.Bytes.{Bytes}
+use Rattle.maths.specs.Bytes.{Bytes, pack}
 use Rattle.maths.specs.Lists.{span}
-use Rattle.maths.specs.Budget.{stop}
 use Rattle.maths.proofs.Tests.{both-false}
 use Rattle.maths.proofs.Lists.{span-length}
 use Rattle.maths.proofs.Slices.{span-whole}
-use Rattle.maths.proofs.Bytes.{bitAt-low, bitAt-past, length-pack, bytes-pack, bitAt-pack, bits-same}
-use Rattle.maths.proofs.Budget.{run-at-once}
-use Rattle.codes.specs.Codes.{Known, TM, rowOf, bitsIn, checksIn}
+use Rattle.maths.proofs.Bytes.{bitAt-low, bitAt-past, length-pack, bytes-pack, bitAt-pack, bits-same, bytes-take}
+use Rattle.codes.specs.Codes.{Known, TM, rowOf, bitsIn}
 use Rattle.codes.specs.Edges.{edges}
 use Rattle.codes.specs.Equations.{Meets, wordOf}
 use Rattle.codes.proofs.Codes.{roomy, tm-punctured}
-use Rattle.codes.proofs.Parity.{hold-holds}
 use Rattle.matrices.specs.Frames.{frameOf, encodedBytes}
 use Rattle.matrices.proofs.Edges.{meets-same}
 use Rattle.matrices.proofs.Encoded.{encoded-bits}
 use Rattle.report.specs.Report.{ending}
-use Rattle.bit_flip.specs.Flip.{pass}
 use Rattle.bit_flip.specs.Erasures.{voted, filled, erasurePasses}
-use Rattle.bit_flip.specs.Outcome.{left, decodeWord, received, punctured, decoded, outcome}
+use Rattle.bit_flip.specs.Outcome.{left, received, punctured, outcome}
 use Rattle.bit_flip.proofs.Votes.{one-pass}
-use Rattle.bit_flip.proofs.Theorems.{clean-pass, answerOf, is-accepted, accepted-input, received-word}
+use Rattle.bit_flip.proofs.Theorems.{answerOf, accepted-input, received-word, ends-at-once}
 use Rattle.telemetry.specs.Completion.{completion, completionBytes, Completes}
 use Rattle.telemetry.proofs.Votes.{voted-completion}
 use Rattle.telemetry.proofs.Completed.{completion-same, completion-only, completion-meets}
@@ -64,18 +60,14 @@ module _ (code : ℕ) (tm : TM code) where
         sym (one-pass (punctured code) (edges code) (rowOf code .«punctured_bits») limit w (tm-punctured code tm) h v)
 
   -- a frame whose completion meets the equations is decoded to it at once
-  pub clean-completion : (input output working : List ℕ) (limit : ℕ) → answerOf code input output working ≡ 0
+  clean-completion : (input output working : List ℕ) (limit : ℕ) → answerOf code input output working ≡ 0
       → Meets code (completion code (bitAt input)) → 1 ≤ limit
       → outcome code input output working limit ≡ left (ending true 0) (completionBytes code input) (replicate (bitsIn code) 0)
-  unfolding decoded decodeWord
   clean-completion input output working limit e meets h =
       let len = accepted-input code input output working limit e in
-      let s = full input len in
       let w = full-word input len in
-      let p : pass (edges code) (checksIn code) s ≡ stop s =
-      clean-pass (edges code) (checksIn code) s (rw w (hold-holds (edges code) (checksIn code) (completion code (bitAt input)) meets)) in
-      is-accepted code input output working limit e
-      ∙ rw (erasures-end input len limit h, run-at-once (pass (edges code) (checksIn code)) limit s s h p, w)
+      ends-at-once code input output working limit (full input len) e h (erasures-end input len limit h) (subst (Meets code) (sym w) meets)
+      ∙ ap (λ (f : ℕ → ℕ). left (ending true 0) (pack f (rowOf code .«output_len»)) (replicate (bitsIn code) 0)) w
 
   -- ---- a frame has at most one completion, as bytes
   pub completes-once : (frame word word′ : List ℕ) → Completes code frame word → Completes code frame word′ → word ≡ word′
@@ -92,7 +84,7 @@ module _ (code : ℕ) (tm : TM code) where
       let m = rowOf code .n / 8 in
       let r = roomy code known in
       let l : length (take m word) ≡ m = length-take-le m word (omega (arith, c .long, r .whole, r .sent)) in
-      bits-same (take m word) frame (l ∙ sym len) (λ i h. rw (getD-take m word i 0 (omega arith)) (c .bytes i (omega (arith, length-take m word)))) bytes
+      bits-same (take m word) frame (l ∙ sym len) (bytes-take m word l (c .bytes)) bytes
       (λ v h. ap (λ (x : ℕ). x / 2 ^ (7 - v % 8) % 2) (getD-take m word (v / 8) 0 (omega arith)) ∙ c .front v (omega (arith, r .sent)))
 
   -- ---- the frame of a message
@@ -100,8 +92,8 @@ module _ (code : ℕ) (tm : TM code) where
     abbrev sent : List ℕ
     sent = encodedBytes code msg
 
-    pub sent-meets : Meets code (completion code (bitAt sent))
-    sent-meets =
+    completed-meets : Meets code (completion code (bitAt sent))
+    completed-meets =
         meets-same code known (completion code (frameOf code (bitAt msg))) (completion code (bitAt sent))
         (completion-same code tm (frameOf code (bitAt msg)) (bitAt sent) (λ v h. ap (λ (x : ℕ). x % 2) (sym (encoded-bits code known msg len v h))))
         (completion-meets code tm (bitAt msg))
@@ -117,10 +109,10 @@ module _ (code : ℕ) (tm : TM code) where
           bytes = bytes-pack (completion code (bitAt sent)) (rowOf code .«output_len»);
           front = λ v h. at v (omega arith) ∙ rw (lt-leb (rowOf code .n) v h) (mod-eq-of-lt (bitAt-low sent v));
           meets = meets-same code known (completion code (bitAt sent)) (bitAt (completionBytes code sent))
-              (λ v h. sym (ap (λ (x : ℕ). x % 2) (at v h) ∙ mod-mod (completion code (bitAt sent) v) 2)) sent-meets;
+              (λ v h. sym (ap (λ (x : ℕ). x % 2) (at v h) ∙ mod-mod (completion code (bitAt sent) v) 2)) completed-meets;
         }
 
     -- unchanged, with limit 1 or more, bit flipping returns it with (true, 0)
     pub unchanged : (output working : List ℕ) (limit : ℕ) → answerOf code sent output working ≡ 0 → 1 ≤ limit
         → outcome code sent output working limit ≡ left (ending true 0) (completionBytes code sent) (replicate (bitsIn code) 0)
-    unchanged output working limit e h = clean-completion sent output working limit e sent-meets h
+    unchanged output working limit e h = clean-completion sent output working limit e completed-meets h

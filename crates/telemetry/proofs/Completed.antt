@@ -1,4 +1,4 @@
--- The frames of the TM codes, completed: they meet every equation, and are the only words that do. Assumes nothing.
+-- The frames of the TM codes, completed: they meet every equation, and no other word with the same sent bits does. Assumes nothing.
 use mathlib.Core.Bool.{Bool, true, false}
 use mathlib.Core.Path.{_≡_, refl, sym, ap, _∙_}
 use Prim.Native.Nat.{ℕ, _+_, _-_, _*_, _/_, _%_, _≤_, _<_}
@@ -28,10 +28,10 @@ use Rattle.telemetry.specs.Completion.{lone, sentParity, completion}
 use Rattle.telemetry.proofs.Sizes.{parityBlocks, wordsOf, cut}
 use Rattle.telemetry.proofs.Alone.{lone-sum}
 use Rattle.telemetry.proofs.Votes.{sent-parity-low, where-punctured}
-use Rattle.telemetry.proofs.Filled.{genList, rows-tested, sent-same}
+use Rattle.telemetry.proofs.Generator.{genList, tested-rows, sent-same}
 use Rattle.telemetry.proofs.Tests.{loneRows, blocksAt, rows-complete}
 
--- a frame reads only the first rb blocks of the generator's rows
+-- rb blocks of parity read only the first rb blocks of the generator's rows
 frame-ext : (b k rb : ℕ) → 0 < b → (G G′ : ℕ → ℕ → ℕ) → ((c j : ℕ) → j < rb * b → G c j ≡ G′ c j)
     → (d : ℕ → ℕ) (v : ℕ) → v < k + rb * b → frame b k G d v ≡ frame b k G′ d v
 frame-ext b k rb pos G G′ same d v h = go (ltb v k) refl
@@ -53,31 +53,31 @@ module _ (code : ℕ) (tm : TM code) where
   b = circulantOf code
 
   -- ---- the generator with its rows completed
-  filledRows : ℕ → ℕ → ℕ
-  filledRows = genList b (blocksAt code (circs code))
+  completedRows : ℕ → ℕ → ℕ
+  completedRows = genList b (blocksAt code (circs code))
 
   abbrev whole : (ℕ → ℕ) → ℕ → ℕ
-  whole = frame b (rowOf code .k) filledRows
+  whole = frame b (rowOf code .k) completedRows
 
-  row-holds : (i : ℕ) → i < rowOf code .k → Meets code (systematic b (rowOf code .k) filledRows i)
-  unfolding filledRows
+  row-holds : (i : ℕ) → i < rowOf code .k → Meets code (systematic b (rowOf code .k) completedRows i)
+  unfolding completedRows
   row-holds i =
       let pos = sizes code known .some in
-      of-edges code known (λ es m n k. i < k → Hold es m (systematic b k filledRows i))
-      (row-meets b (dataBlocks code) (checkBlocks code) pos (circs code) filledRows
-      (rows-tested b (dataBlocks code) pos (blocksAt code (circs code)) (checkBlocks code) (circs code) (rows-complete code tm)) i)
+      of-edges code known (λ es m n k. i < k → Hold es m (systematic b k completedRows i))
+      (row-meets b (dataBlocks code) (checkBlocks code) pos (circs code) completedRows
+      (tested-rows b (dataBlocks code) pos (blocksAt code (circs code)) (checkBlocks code) (circs code) (rows-complete code tm)) i)
 
   whole-meets : (d : ℕ → ℕ) → Meets code (whole d)
   whole-meets d =
-      hold-sum (edges code) (checksIn code) (rowOf code .k) d (systematic b (rowOf code .k) filledRows) (whole d) row-holds
-      (frame-product b (sizes code known .some) filledRows (rowOf code .k) d)
+      hold-sum (edges code) (checksIn code) (rowOf code .k) d (systematic b (rowOf code .k) completedRows) (whole d) row-holds
+      (frame-product b (sizes code known .some) completedRows (rowOf code .k) d)
 
   whole-sent : (d : ℕ → ℕ) (v : ℕ) → v < rowOf code .n → whole d v ≡ frameOf code d v
-  unfolding filledRows
+  unfolding completedRows
   whole-sent d v h =
       let z = sizes code known in
       let c = cut code known in
-      frame-ext b (rowOf code .k) (parityBlocks code) (z .some) filledRows (generator code)
+      frame-ext b (rowOf code .k) (parityBlocks code) (z .some) completedRows (generator code)
       (sent-same b (dataBlocks code) (parityBlocks code) (wordsOf code) (generatorOf code) (loneRows code (circs code)) (z .some) (c .words))
       d v (omega (arith, c .parity, z .data-fits))
 
@@ -105,7 +105,7 @@ module _ (code : ℕ) (tm : TM code) where
   -- ---- a word that meets the equations
   module _ (w : ℕ → ℕ) (good : Meets code w) (v : ℕ) where
     -- its punctured bit is the parity of the sent bits of its check,
-    pub punctured-bit : punctured code v ≡ true → w v % 2 ≡ sentParity code w (lone code v)
+    punctured-bit : punctured code v ≡ true → w v % 2 ≡ sentParity code w (lone code v)
     punctured-bit p =
         let (h, h′) = where-punctured code v p in
         let vs = bitsOf (edges code) (lone code v) in

@@ -3,7 +3,7 @@ pub mod Punctured
 pub mod Alone
 pub mod Votes
 pub mod Repeated
-pub mod Filled
+pub mod Generator
 pub mod Tests
 pub mod Completed
 pub mod Clean

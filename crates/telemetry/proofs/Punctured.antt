@@ -21,7 +21,7 @@ use Rattle.matrices.proofs.Weights.{rowTo, row-to, checks-column}
 use Rattle.bit_flip.specs.Erasures.{holes, fromOn}
 
 -- ---- a list of one circulant, not turned, in the row a and the column q
-abbrev pub single : ℕ → ℕ → List Circ → Bool
+abbrev single : ℕ → ℕ → List Circ → Bool
 single a q [] = false
 single a q (k ∷ []) = both (eqb (k .row) a) (both (eqb (k .col) q) (eqb (k .turn) 0))
 single a q (k ∷ l ∷ ks) = false
@@ -38,14 +38,15 @@ single-is a q (k ∷ l ∷ ks) h = absurd h
 
 -- ---- the columns from nb up to tb are punctured
 module _ (nb tb : ℕ) where
-  -- the punctured circulants of a row, and those circulants of a column whose row has one
-  abbrev pub punct : List Circ → List Circ
+  -- the punctured circulants of a row, and those circulants of a column whose row has exactly one
+  abbrev punct : List Circ → List Circ
   punct js = keep (λ k. fromOn nb tb (k .col)) js
 
-  abbrev pub aloneIn : List Circ → ℕ → List Circ
+  abbrev aloneIn : List Circ → ℕ → List Circ
   aloneIn ks p = keep (λ k. eqb (length (punct (inRow ks (k .row)))) 1) (inColumn ks p)
 
-  -- "every punctured bit has a check with no other punctured edge": of pb punctured columns the first has it in the row r, each further one a row below
+  -- "every punctured bit has a check with no other punctured edge": of pb punctured columns the first has it in the row r, each further one
+  -- a row below, and that row has no other punctured circulant
   abbrev pub aloneTest : ℕ → ℕ → List Circ → Bool
   aloneTest pb r ks =
       below pb (λ j. both (single (r + j) (nb + j) (aloneIn ks (nb + j))) (single (r + j) (nb + j) (punct (inRow ks (r + j)))))
@@ -66,8 +67,8 @@ module _ (b nb tb : ℕ) (pos : 0 < b) where
           let l : tb * b ≤ q * b = mul-le-mul-right b (omega arith) in
           rw (le-ltb q tb (omega arith), le-ltb (q * b + x) (tb * b) (omega arith))
 
-  -- a sum over the punctured bits of a check
-  abbrev pub only : (ℕ → ℕ) → ℕ → ℕ
+  -- the word with 0 for the bits that are sent
+  abbrev only : (ℕ → ℕ) → ℕ → ℕ
   only w u = pick (fromOn (nb * b) (tb * b) u) (w u) 0
 
   row-only : (js : List Circ) (w : ℕ → ℕ) (t : ℕ) → sumRow b js (λ q x. only w (q * b + x)) t ≡ sumRow b (punct nb tb js) (λ q x. w (q * b + x)) t

@@ -16,7 +16,7 @@ use Rattle.matrices.specs.Circulants.{Circ, circulantOf, circs, circsAt, blockC
 use Rattle.matrices.proofs.Sizes.{dataBlocks, checkBlocks}
 use Rattle.matrices.proofs.Rows.{inRow}
 use Rattle.telemetry.proofs.Sizes.{parityBlocks, wordsOf, thirdBlock, puncturedBlocks}
-use Rattle.telemetry.proofs.Filled.{rowTest, rowsOf, completed}
+use Rattle.telemetry.proofs.Generator.{rowTest, allRows, completed}
 
 -- the rows of circulants that the punctured bits are set by
 abbrev pub loneRows : ℕ → List Circ → List (List Circ)
@@ -33,7 +33,7 @@ rowsComplete code =
     let b = circulantOf code in
     let K = dataBlocks code in
     let ws = generatorOf code in
-    let js = rowsOf ks (checkBlocks code) in
+    let js = allRows ks (checkBlocks code) in
     let lones = loneRows code ks in
     below K (rowTest b K (completed b K (parityBlocks code) (wordsOf code) ws lones) js)
 

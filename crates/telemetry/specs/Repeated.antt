@@ -17,6 +17,7 @@ pub record Partly : Type 0 where
 abbrev pub partly : List ℕ → (ℕ → Bool) → Partly
 partly w erased = record { word = w; erased = erased }
 
+-- "In each pass the checks with exactly one edge to a bit still erased vote; known bits count with their values.":
 -- "a bit with a sum above zero becomes 1, below zero becomes 0, both are marked known; with sum zero it stays erased and holds 0"
 abbrev pub settled : List Edge → Partly → Partly
 settled es s =

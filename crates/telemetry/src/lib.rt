@@ -1,1 +1,1 @@
-// An unchanged TM frame has one completion, and bit flipping returns it: in specs/ and proofs/, no function.
+// A TM frame has one completion, and bit flipping returns it if the frame comes unchanged: in specs/ and proofs/, no function.

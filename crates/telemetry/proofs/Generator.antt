@@ -1,5 +1,5 @@
--- The rows of a generator as blocks of bits, with the blocks that complete them: turned and added as lists, for a quicker test than that of
--- matrices/proofs/Turning. Assumes nothing.
+-- The rows of a generator as blocks of bits, completed: turned and added as lists, for a quicker test than that of matrices/proofs/Turning.
+-- Assumes nothing.
 use mathlib.Core.Bool.{Bool, true, false}
 use mathlib.Core.List.{List, [], _∷_, _++_, map}
 use mathlib.Core.Logic.{inl, inr}
@@ -14,19 +14,21 @@ use lib.ListN.{length, getD, drop, replicate, length-replicate, List·getD-appen
 use lib.Seq.{getD-drop}
 use Rattle.maths.specs.Tests.{pick, both, all, below}
 use Rattle.maths.specs.Lists.{span}
+use Rattle.maths.specs.Parts.{part}
 use Rattle.maths.specs.Sums.{Even}
 use Rattle.maths.specs.Ones.{delta}
-use Rattle.maths.proofs.Tests.{both-left, both-right, all-at, below-at}
+use Rattle.maths.proofs.Tests.{both-left, both-right, all-at, all-anywhere, below-at}
 use Rattle.maths.proofs.Lists.{span-length}
 use Rattle.maths.proofs.Slices.{span-get, replicate-at}
-use Rattle.maths.proofs.Blocks.{zipAdd, getD-zipAdd, turnL, Block, getD-turnL, chunks, length-chunks, getD-chunks, bitsOfWords, words-bit}
+use Rattle.maths.proofs.Parts.{part-at}
+use Rattle.maths.proofs.Blocks.{zipAdd, getD-zipAdd, turnL, Block, getD-turnL, bitsOfWords, words-bit}
 use Rattle.matrices.specs.Circulants.{Circ}
 use Rattle.matrices.specs.Frames.{generatorBit}
 use Rattle.matrices.proofs.Rows.{inRow, sumRow}
 use Rattle.matrices.proofs.Turning.{based}
 
 -- a block of which the first bit is 1
-abbrev pub oneL : ℕ → List ℕ
+abbrev oneL : ℕ → List ℕ
 oneL b = 1 ∷ replicate (b - 1) 0
 
 getD-one : (b y : ℕ) → getD (oneL b) y 0 ≡ delta 0 y
@@ -34,7 +36,7 @@ getD-one b zero = refl
 getD-one b (suc y) = rw (ne-eqb (suc y) 0 (λ e. omega arith)) (replicate-at (b - 1) 0 y)
 
 -- what a row of circulants adds up to, over row c of G: that block among the K of the data, then the blocks given
-abbrev pub rowList : ℕ → ℕ → ℕ → List (List ℕ) → List ℕ → List Circ → List ℕ
+abbrev rowList : ℕ → ℕ → ℕ → List (List ℕ) → List ℕ → List Circ → List ℕ
 rowList b K c blocks one [] = []
 rowList b K c blocks one (k ∷ ks) =
     let rest = rowList b K c blocks one ks in
@@ -53,13 +55,8 @@ rowTest b K blocks rows c =
     let bs = blocks c in
     both (all (λ l. eqb (length l) b) bs) (let one = oneL b in all (λ row. allEven (rowList b K c bs one row)) rows)
 
-abbrev pub rowsOf : List Circ → ℕ → List (List Circ)
-rowsOf ks mb = span (inRow ks) 0 mb
-
-even-at : (xs : List ℕ) → T (allEven xs) → (t : ℕ) → Even (getD xs t 0)
-even-at [] h t = refl
-even-at (x ∷ xs) h zero = eqb→eq (x % 2) 0 (both-left (eqb (x % 2) 0) (allEven xs) h)
-even-at (x ∷ xs) h (suc t) = even-at xs (both-right (eqb (x % 2) 0) (allEven xs) h) t
+abbrev pub allRows : List Circ → ℕ → List (List Circ)
+allRows ks mb = span (inRow ks) 0 mb
 
 block-at : (b : ℕ) (bs : List (List ℕ)) → T (all (λ l. eqb (length l) b) bs) → (q : ℕ) → Block b (getD bs q [])
 block-at b [] h q = inr refl
@@ -104,32 +101,36 @@ module _ (b K : ℕ) (pos : 0 < b) (blocks : ℕ → List (List ℕ)) where
           ∙ ap₂ (λ (m n : ℕ). m + n)
           (sym (ap₂ (λ (m n : ℕ). getD (getD (blocks c) m []) n 0) (digits-div (k .col - K) low) (digits-mod (k .col - K) low))) ih
 
-  pub rows-tested : (mb : ℕ) (ks : List Circ) → T (below K (rowTest b K blocks (rowsOf ks mb)))
+  pub tested-rows : (mb : ℕ) (ks : List Circ) → T (below K (rowTest b K blocks (allRows ks mb)))
       → (c a y : ℕ) → c < K → a < mb → y < b → Even (sumRow b (inRow ks a) (row c) y)
-  rows-tested mb ks t c a y hc ha hy =
+  tested-rows mb ks t c a y hc ha hy =
       let test : List Circ → Bool = λ js. allEven (rowList b K c (blocks c) (oneL b) js) in
       let lengths = all (λ l. eqb (length l) b) (blocks c) in
-      let h = below-at K (rowTest b K blocks (rowsOf ks mb)) t c hc in
-      let whole = block-at b (blocks c) (both-left lengths (all test (rowsOf ks mb)) h) in
-      let even = all-at test [] (rowsOf ks mb) (both-right lengths (all test (rowsOf ks mb)) h) a (rw (span-length (inRow ks) 0 mb) ha) in
+      let h = below-at K (rowTest b K blocks (allRows ks mb)) t c hc in
+      let whole = block-at b (blocks c) (both-left lengths (all test (allRows ks mb)) h) in
+      let even = all-at test [] (allRows ks mb) (both-right lengths (all test (allRows ks mb)) h) a (rw (span-length (inRow ks) 0 mb) ha) in
       let row-even : T (test (inRow ks a)) = subst (λ (js : List Circ). T (test js)) (span-get (inRow ks) [] mb a ha) even in
-      subst Even (row-list c y hy whole (inRow ks a)) (even-at (rowList b K c (blocks c) (oneL b) (inRow ks a)) row-even y)
+      let sums = rowList b K c (blocks c) (oneL b) (inRow ks a) in
+      subst Even (row-list c y hy whole (inRow ks a)) (eqb→eq (getD sums y 0 % 2) 0 (all-anywhere (λ x. eqb (x % 2) 0) 0 tt sums row-even y))
 
--- ---- row c of the generator, rb blocks from w words, and a block more for each row of circulants of `lones`: what the others of it add up to
+-- ---- row c of the generator, rb blocks from w words, and a block more for each row of circulants of `lones`: what its other circulants add up to
 abbrev pub completed : ℕ → ℕ → ℕ → ℕ → List ℕ → List (List Circ) → ℕ → List (List ℕ)
 completed b K rb w ws lones c =
-    let sent = chunks b rb (bitsOfWords w (drop (c * w) ws)) in
+    let bits = bitsOfWords w (drop (c * w) ws) in
+    let sent = span (λ q. part (q * b) b bits) 0 rb in
     sent ++ (let one = oneL b in map (rowList b K c sent one) lones)
 
 -- its first blocks are the generator's
 pub sent-same : (b K rb w : ℕ) (ws : List ℕ) (lones : List (List Circ)) → 0 < b → w * 64 ≡ rb * b → (c j : ℕ) → j < rb * b
     → genList b (completed b K rb w ws lones) c j ≡ generatorBit w ws c j
 sent-same b K rb w ws lones pos size c j h =
-    let l = bitsOfWords w (drop (c * w) ws) in
+    let bits = bitsOfWords w (drop (c * w) ws) in
+    let block : ℕ → List ℕ = λ q. part (q * b) b bits in
     let q : j / b < rb = div-lt-iff-lt-mul pos .1 h in
     ap (λ (xs : List ℕ). getD xs (j % b) 0)
-    (List·getD-append (chunks b rb l) (map (rowList b K c (chunks b rb l) (oneL b)) lones) [] (j / b) (rw (length-chunks b rb l) q))
-    ∙ getD-chunks b rb l (j / b) (j % b) q (mod-lt j pos)
-    ∙ ap (λ (i : ℕ). getD l i 0) (div-add-mod' j b)
+    (List·getD-append (span block 0 rb) (map (rowList b K c (span block 0 rb) (oneL b)) lones) [] (j / b) (rw (span-length block 0 rb) q)
+    ∙ span-get block [] rb (j / b) q)
+    ∙ part-at (j / b * b) b bits (j % b) 0 (mod-lt j pos)
+    ∙ ap (λ (i : ℕ). getD bits i 0) (div-add-mod' j b)
     ∙ words-bit w (drop (c * w) ws) j (rw size h)
     ∙ ap (λ (i : ℕ). i / 2 ^ (63 - j % 64) % 2) (getD-drop (c * w) ws (j / 64) 0)
