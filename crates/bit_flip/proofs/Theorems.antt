@@ -161,18 +161,36 @@ success-meets code input output working limit e =
 pub received-word : (s : List ℕ) (t : ℕ) → 8 * length s ≤ t → wordOf (span (bitAt s) 0 t) ≡ bitAt s
 received-word s t h = span-whole (bitAt s) t (λ v k. bitAt-past s v (omega arith))
 
--- no bit of a TC code is erased: a call leaves what the passes make of the word received
+-- ---- a call to which the erasure passes give the word s leaves what the main passes make of it
+module _ (code limit : ℕ) (input output working s : List ℕ) (e : answerOf code input output working ≡ 0)
+    (begun : erasurePasses (punctured code) (edges code) (rowOf code .«punctured_bits») limit (received code input) ≡ filled s 0) where
+  abbrev after : End (List ℕ)
+  after = passes (edges code) (checksIn code) limit s
+
+  outcome-from : outcome code input output working limit
+      ≡ left (ending (after .success) (after .turns)) (pack (wordOf (after .state)) (rowOf code .«output_len»)) (replicate (bitsIn code) 0)
+  unfolding decoded decodeWord
+  outcome-from = is-accepted code input output working limit e ∙ rw (begun, add-zero (after .turns))
+
+  -- s itself with (true, 0), if it meets the equations and maxiters is at least 1
+  pub ends-at-once : Meets code (wordOf s) → 1 ≤ limit
+      → outcome code input output working limit ≡ left (ending true 0) (pack (wordOf s) (rowOf code .«output_len»)) (replicate (bitsIn code) 0)
+  ends-at-once meets h =
+      let p = clean-pass (edges code) (checksIn code) s (hold-holds (edges code) (checksIn code) (wordOf s) meets) in
+      outcome-from ∙ rw (run-at-once (pass (edges code) (checksIn code)) limit s s h p)
+
+-- no bit of a TC code is erased: the main passes begin with the word received
 module _ (code : ℕ) (tc : TC code) (limit : ℕ) (input : List ℕ) where
+  none-erased : erasurePasses (punctured code) (edges code) (rowOf code .«punctured_bits») limit (received code input) ≡ filled (received code input) 0
+  none-erased = sym (no-bits (punctured code) (edges code) (rowOf code .«punctured_bits») limit (received code input) (tc-sent code tc))
+
   abbrev pub ended : End (List ℕ)
   ended = passes (edges code) (checksIn code) limit (received code input)
 
   pub outcome-is : (output working : List ℕ) → answerOf code input output working ≡ 0
       → outcome code input output working limit
       ≡ left (ending (ended .success) (ended .turns)) (pack (wordOf (ended .state)) (rowOf code .«output_len»)) (replicate (bitsIn code) 0)
-  unfolding decoded decodeWord
-  outcome-is output working e =
-      let f = sym (no-bits (punctured code) (edges code) (rowOf code .«punctured_bits») limit (received code input) (tc-sent code tc)) in
-      is-accepted code input output working limit e ∙ rw (f, add-zero (ended .turns))
+  outcome-is output working e = outcome-from code limit input output working (received code input) e none-erased
 
   -- the bits of that output
   pub output-word : bitAt (pack (wordOf (ended .state)) (rowOf code .«output_len»)) ≡ wordOf (ended .state)
@@ -181,16 +199,7 @@ module _ (code : ℕ) (tc : TC code) (limit : ℕ) (input : List ℕ) where
       (passes-length (edges code) (checksIn code) limit (received code input) ∙ span-length (bitAt input) 0 (bitsIn code) ∙ sym (roomy code (omega arith) .whole))
       (passes-bits (edges code) (checksIn code) limit (received code input) (received-bits input (bitsIn code) refl))
 
--- a call whose main passes begin with a word that meets the equations ends with it at once, where maxiters is at least 1
-pub ends-at-once : (code : ℕ) (input output working : List ℕ) (limit : ℕ) (s : List ℕ) → answerOf code input output working ≡ 0 → 1 ≤ limit
-    → erasurePasses (punctured code) (edges code) (rowOf code .«punctured_bits») limit (received code input) ≡ filled s 0 → Meets code (wordOf s)
-    → outcome code input output working limit ≡ left (ending true 0) (pack (wordOf s) (rowOf code .«output_len»)) (replicate (bitsIn code) 0)
-unfolding decoded decodeWord
-ends-at-once code input output working limit s e h begun meets =
-    let p = clean-pass (edges code) (checksIn code) s (hold-holds (edges code) (checksIn code) (wordOf s) meets) in
-    is-accepted code input output working limit e ∙ rw (begun, run-at-once (pass (edges code) (checksIn code)) limit s s h p)
-
--- so a TC word that meets them comes back with (true, 0)
+-- a TC word that meets the equations comes back with (true, 0), where maxiters is at least 1
 pub clean : (code : ℕ) (input output working : List ℕ) (limit : ℕ) → TC code → answerOf code input output working ≡ 0 → Bytes input
     → Meets code (bitAt input) → 1 ≤ limit → outcome code input output working limit ≡ left (ending true 0) input (replicate (bitsIn code) 0)
 clean code input output working limit tc e bytes meets h =
@@ -200,18 +209,18 @@ clean code input output working limit tc e bytes meets h =
     let l : 8 * length input ≡ bitsIn code = omega (arith, r .sent) in
     let o : rowOf code .«output_len» ≡ length input = omega (arith, r .whole) in
     let w : wordOf (received code input) ≡ bitAt input = received-word input (bitsIn code) (omega arith) in
-    let begun = sym (no-bits (punctured code) (edges code) (rowOf code .«punctured_bits») limit (received code input) z) in
-    ends-at-once code input output working limit (received code input) e h begun (subst (Meets code) (sym w) meets) ∙ rw (o, w, pack-again input bytes)
+    ends-at-once code limit input output working (received code input) e (none-erased code tc limit input) (subst (Meets code) (sym w) meets) h
+    ∙ rw (o, w, pack-again input bytes)
 
 -- with maxiters 0: (false, 0) and the input followed by zeros, whatever the input
 pub limit-none : (code : ℕ) (input output working : List ℕ) → answerOf code input output working ≡ 0 → Bytes input
     → outcome code input output working 0 ≡ left (ending false 0) (input ++ replicate (rowOf code .«output_len» - length input) 0) (replicate (bitsIn code) 0)
-unfolding decoded decodeWord run
+unfolding run
 limit-none code input output working e bytes =
     let k = accepted-known code input output working 0 e in
     let i = accepted-input code input output working 0 e in
     let r = roomy code k in
     let f = sym (no-limit (punctured code) (edges code) (rowOf code .«punctured_bits») 0 (received code input) refl) in
     let w : wordOf (received code input) ≡ bitAt input = received-word input (bitsIn code) (omega (arith, r .sent)) in
-    is-accepted code input output working 0 e
-    ∙ rw (f, w, pack-own input (rowOf code .«output_len») bytes, span-padded input (rowOf code .«output_len») (omega (arith, r .whole, r .sent)))
+    outcome-from code 0 input output working (received code input) e f
+    ∙ rw (w, pack-own input (rowOf code .«output_len») bytes, span-padded input (rowOf code .«output_len») (omega (arith, r .whole, r .sent)))

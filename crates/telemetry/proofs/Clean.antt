@@ -66,7 +66,7 @@ module _ (code : ℕ) (tm : TM code) where
   clean-completion input output working limit e meets h =
       let len = accepted-input code input output working limit e in
       let w = full-word input len in
-      ends-at-once code input output working limit (full input len) e h (erasures-end input len limit h) (subst (Meets code) (sym w) meets)
+      ends-at-once code limit input output working (full input len) e (erasures-end input len limit h) (subst (Meets code) (sym w) meets) h
       ∙ ap (λ (f : ℕ → ℕ). left (ending true 0) (pack f (rowOf code .«output_len»)) (replicate (bitsIn code) 0)) w
 
   -- ---- a frame has at most one completion, as bytes

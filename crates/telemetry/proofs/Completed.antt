@@ -78,7 +78,7 @@ module _ (code : ℕ) (tm : TM code) where
       let z = sizes code known in
       let c = cut code known in
       frame-ext b (rowOf code .k) (parityBlocks code) (z .some) completedRows (generator code)
-      (sent-same b (dataBlocks code) (parityBlocks code) (wordsOf code) (generatorOf code) (loneRows code (circs code)) (z .some) (c .words))
+      (sent-same b (dataBlocks code) (parityBlocks code) (wordsOf code) (generatorOf code) (loneRows code (circs code)) (z .some))
       d v (omega (arith, c .parity, z .data-fits))
 
   -- ---- any word: the bits that are sent, modulo 2, decide the parity of a check's sent bits,

@@ -5,7 +5,7 @@ use mathlib.Core.List.{List, [], _∷_, _++_, map}
 use mathlib.Core.Logic.{inl, inr}
 use mathlib.Core.Path.{_≡_, refl, sym, ap, ap₂, _∙_, subst}
 use Prim.Native.Nat.{ℕ, zero, suc, _+_, _-_, _*_, _/_, _%_, _^_, _<_}
-use native.Mathlib.Nat.{zero-add, mod-lt, mod-add-mod, div-add-mod', div-lt-iff-lt-mul}
+use native.Mathlib.Nat.{zero-add, zero-mul, mod-lt, mod-add-mod, div-add-mod', div-lt-iff-lt-mul}
 use native.Mathlib.Omega.{arith}
 use borrow.Author.Tests.{ne-eqb}
 use lib.Dec.{T, eqb, ltb, eqb→eq}
@@ -14,14 +14,12 @@ use lib.ListN.{length, getD, drop, replicate, length-replicate, List·getD-appen
 use lib.Seq.{getD-drop}
 use Rattle.maths.specs.Tests.{pick, both, all, below}
 use Rattle.maths.specs.Lists.{span}
-use Rattle.maths.specs.Parts.{part}
 use Rattle.maths.specs.Sums.{Even}
 use Rattle.maths.specs.Ones.{delta}
 use Rattle.maths.proofs.Tests.{both-left, both-right, all-at, all-anywhere, below-at}
 use Rattle.maths.proofs.Lists.{span-length}
 use Rattle.maths.proofs.Slices.{span-get, replicate-at}
-use Rattle.maths.proofs.Parts.{part-at}
-use Rattle.maths.proofs.Blocks.{zipAdd, getD-zipAdd, turnL, Block, getD-turnL, bitsOfWords, words-bit}
+use Rattle.maths.proofs.Blocks.{zipAdd, getD-zipAdd, turnL, Block, getD-turnL}
 use Rattle.matrices.specs.Circulants.{Circ}
 use Rattle.matrices.specs.Frames.{generatorBit}
 use Rattle.matrices.proofs.Rows.{inRow, sumRow}
@@ -113,24 +111,24 @@ module _ (b K : ℕ) (pos : 0 < b) (blocks : ℕ → List (List ℕ)) where
       let sums = rowList b K c (blocks c) (oneL b) (inRow ks a) in
       subst Even (row-list c y hy whole (inRow ks a)) (eqb→eq (getD sums y 0 % 2) 0 (all-anywhere (λ x. eqb (x % 2) 0) 0 tt sums row-even y))
 
--- ---- row c of the generator, rb blocks from w words, and a block more for each row of circulants of `lones`: what its other circulants add up to
+-- ---- row c of the generator, rb blocks, and a block more for each row of circulants of `lones`: what its other circulants add up to
 abbrev pub completed : ℕ → ℕ → ℕ → ℕ → List ℕ → List (List Circ) → ℕ → List (List ℕ)
 completed b K rb w ws lones c =
-    let bits = bitsOfWords w (drop (c * w) ws) in
-    let sent = span (λ q. part (q * b) b bits) 0 rb in
+    let words = drop (c * w) ws in
+    let sent = span (λ q. span (λ y. generatorBit w words 0 (q * b + y)) 0 b) 0 rb in
     sent ++ (let one = oneL b in map (rowList b K c sent one) lones)
 
 -- its first blocks are the generator's
-pub sent-same : (b K rb w : ℕ) (ws : List ℕ) (lones : List (List Circ)) → 0 < b → w * 64 ≡ rb * b → (c j : ℕ) → j < rb * b
+pub sent-same : (b K rb w : ℕ) (ws : List ℕ) (lones : List (List Circ)) → 0 < b → (c j : ℕ) → j < rb * b
     → genList b (completed b K rb w ws lones) c j ≡ generatorBit w ws c j
-sent-same b K rb w ws lones pos size c j h =
-    let bits = bitsOfWords w (drop (c * w) ws) in
-    let block : ℕ → List ℕ = λ q. part (q * b) b bits in
+sent-same b K rb w ws lones pos c j h =
+    let words = drop (c * w) ws in
+    let block : ℕ → List ℕ = λ q. span (λ y. generatorBit w words 0 (q * b + y)) 0 b in
     let q : j / b < rb = div-lt-iff-lt-mul pos .1 h in
+    let first : 0 * w + j / 64 ≡ j / 64 = ap (λ (i : ℕ). i + j / 64) (zero-mul w) ∙ zero-add (j / 64) in
     ap (λ (xs : List ℕ). getD xs (j % b) 0)
     (List·getD-append (span block 0 rb) (map (rowList b K c (span block 0 rb) (oneL b)) lones) [] (j / b) (rw (span-length block 0 rb) q)
     ∙ span-get block [] rb (j / b) q)
-    ∙ part-at (j / b * b) b bits (j % b) 0 (mod-lt j pos)
-    ∙ ap (λ (i : ℕ). getD bits i 0) (div-add-mod' j b)
-    ∙ words-bit w (drop (c * w) ws) j (rw size h)
-    ∙ ap (λ (i : ℕ). i / 2 ^ (63 - j % 64) % 2) (getD-drop (c * w) ws (j / 64) 0)
+    ∙ span-get (λ y. generatorBit w words 0 (j / b * b + y)) 0 b (j % b) (mod-lt j pos)
+    ∙ ap (generatorBit w words 0) (div-add-mod' j b)
+    ∙ ap (λ (i : ℕ). i / 2 ^ (63 - j % 64) % 2) (getD-drop (c * w) ws (0 * w + j / 64) 0 ∙ ap (λ (i : ℕ). getD ws (c * w + i) 0) first)

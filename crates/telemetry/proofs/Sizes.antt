@@ -29,7 +29,6 @@ pub record Cut (code : ℕ) : Type 0 where
   pub sent : sentBlocks code * circulantOf code ≡ rowOf code .n
   pub bits : bitBlocks code ≡ sentBlocks code + puncturedBlocks code
   pub parity : parityBlocks code * circulantOf code ≡ rowOf code .n - rowOf code .k
-  pub words : wordsOf code * 64 ≡ parityBlocks code * circulantOf code
   pub third : thirdBlock code * circulantOf code ≡ thirdRow code
   -- there is a check in the third row of blocks for each punctured bit
   pub room : thirdRow code + rowOf code .«punctured_bits» ≤ checksIn code
@@ -41,7 +40,6 @@ cut code h =
       sent = below-eq codes (λ c. sentBlocks c * circulantOf c) (λ c. rowOf c .n) tt code h;
       bits = below-eq codes bitBlocks (λ c. sentBlocks c + puncturedBlocks c) tt code h;
       parity = below-eq codes (λ c. parityBlocks c * circulantOf c) (λ c. rowOf c .n - rowOf c .k) tt code h;
-      words = below-eq codes (λ c. wordsOf c * 64) (λ c. parityBlocks c * circulantOf c) tt code h;
       third = below-eq codes (λ c. thirdBlock c * circulantOf c) thirdRow tt code h;
       room = leb→le _ (checksIn code) (below-at codes (λ c. leb (thirdRow c + rowOf c .«punctured_bits») (checksIn c)) tt code h);
     }
