@@ -41,7 +41,7 @@ module _ (b : ℕ) (pos : 0 < b) where
     pub adds-entry : (i j : ℕ) → adds b G i j ≡ wEntry b G i j
     adds-entry i j = sym (row-below (G (i / b)) (i % b) j (mod-lt i pos))
 
-    pub frame-product : (k : ℕ) (d : ℕ → ℕ) (v : ℕ) → frame b k G d v % 2 ≡ sumN k (λ i. d i * systematic b k G i v) % 2
+    frame-product : (k : ℕ) (d : ℕ → ℕ) (v : ℕ) → frame b k G d v % 2 ≡ sumN k (λ i. d i * systematic b k G i v) % 2
     frame-product k d v = go (ltb v k) refl
       where
         go : (x : Bool) → ltb v k ≡ x

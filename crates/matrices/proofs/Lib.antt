@@ -9,6 +9,7 @@ pub mod Entries
 pub mod Frames
 pub mod Generators
 pub mod Turning
+pub mod RowTest
 pub mod Weights
 pub mod Apart
 pub mod Telecommand

@@ -16,7 +16,7 @@ use Rattle.matrices.specs.Circulants.{circulantOf}
 abbrev pub sizeOf : ℕ → ℕ
 sizeOf code = matrixOf code .size
 
--- the blocks of b that the data, the checks and the bits of a code make
+-- the blocks of b that the data, the checks, the bits and the parity of a code make
 abbrev pub dataBlocks : ℕ → ℕ
 dataBlocks code = rowOf code .k / circulantOf code
 
@@ -25,6 +25,9 @@ checkBlocks code = checksIn code / circulantOf code
 
 abbrev pub bitBlocks : ℕ → ℕ
 bitBlocks code = bitsIn code / circulantOf code
+
+abbrev pub parityBlocks : ℕ → ℕ
+parityBlocks code = (rowOf code .n - rowOf code .k) / circulantOf code
 
 -- how many bytes of parity a code has
 abbrev pub parityBytes : ℕ → ℕ
@@ -39,10 +42,11 @@ pub record Sizes (code : ℕ) : Type 0 where
   -- a matrix has at most 4 by 11 blocks
   pub rows-fit : checksIn code ≤ 4 * sizeOf code
   pub columns-fit : bitsIn code ≤ 11 * sizeOf code
-  -- data, checks and bits are made of circulants
+  -- data, checks, bits and parity are made of circulants
   pub data-blocks : dataBlocks code * circulantOf code ≡ rowOf code .k
   pub check-blocks : checkBlocks code * circulantOf code ≡ checksIn code
   pub bit-blocks : bitBlocks code * circulantOf code ≡ bitsIn code
+  pub parity-blocks : parityBlocks code * circulantOf code ≡ rowOf code .n - rowOf code .k
   -- data and parity are whole bytes
   pub data-bytes : rowOf code .k / 8 * 8 ≡ rowOf code .k
   pub parity-bytes : parityBytes code * 8 ≡ rowOf code .n - rowOf code .k
@@ -62,6 +66,7 @@ sizes code h =
       data-blocks = below-eq codes (λ c. dataBlocks c * circulantOf c) (λ c. rowOf c .k) tt code h;
       check-blocks = below-eq codes (λ c. checkBlocks c * circulantOf c) checksIn tt code h;
       bit-blocks = below-eq codes (λ c. bitBlocks c * circulantOf c) bitsIn tt code h;
+      parity-blocks = below-eq codes (λ c. parityBlocks c * circulantOf c) (λ c. rowOf c .n - rowOf c .k) tt code h;
       data-bytes = below-eq codes (λ c. rowOf c .k / 8 * 8) (λ c. rowOf c .k) tt code h;
       parity-bytes = below-eq codes (λ c. parityBytes c * 8) (λ c. rowOf c .n - rowOf c .k) tt code h;
       data-fits = leb→le (rowOf code .k) (rowOf code .n) (below-at codes (λ c. leb (rowOf c .k) (rowOf c .n)) tt code h);

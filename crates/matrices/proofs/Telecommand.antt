@@ -1,7 +1,8 @@
 -- TC128, TC256, TC512: every frame meets the equations, and every column is odd. Assumes nothing.
 use mathlib.Core.Bool.{Bool}
-use mathlib.Core.List.{flatMap}
-use Prim.Native.Nat.{ℕ, _<_}
+use mathlib.Core.List.{List, [], flatMap}
+use mathlib.Core.Path.{ap}
+use Prim.Native.Nat.{ℕ, _%_, _<_}
 use native.Mathlib.Omega.{arith}
 use lib.Dec.{T}
 use Rattle.maths.specs.Tests.{below}
@@ -13,23 +14,27 @@ use Rattle.codes.specs.Words.{generators}
 use Rattle.codes.specs.Codes.{Known, tcCodes, TC, rows, rowOf, bitsIn, checksIn, tables}
 use Rattle.codes.specs.Blocks.{blockOf, cellBlocks, rowBlocks, lastRows}
 use Rattle.codes.specs.Edges.{blocksOf, edges}
-use Rattle.codes.specs.Equations.{Hold, Meets}
+use Rattle.codes.specs.Equations.{Meets}
+use Rattle.codes.proofs.Codes.{tc-sent}
 use Rattle.codes.proofs.Flat.{edges-ranged}
-use Rattle.matrices.specs.Circulants.{circulantOf, circs, circsAt, blockCircs}
-use Rattle.matrices.specs.Frames.{generator, frameOf}
-use Rattle.matrices.specs.Generators.{systematic, gEntry}
+use Rattle.matrices.specs.Circulants.{Circ, circulantOf, circs, circsAt, blockCircs}
+use Rattle.matrices.specs.Frames.{frameOf}
+use Rattle.matrices.specs.Generators.{gEntry}
 use Rattle.matrices.specs.Columns.{Odd}
-use Rattle.matrices.proofs.Sizes.{dataBlocks, checkBlocks, bitBlocks, sizes}
+use Rattle.matrices.proofs.Sizes.{bitBlocks, sizes}
 use Rattle.matrices.proofs.Circulants.{of-edges}
-use Rattle.matrices.proofs.Edges.{hold-sum, even-word}
-use Rattle.matrices.proofs.Rows.{inRow, sumRow}
+use Rattle.matrices.proofs.Edges.{hold-sum, meets-same, even-word}
 use Rattle.matrices.proofs.Generators.{frame-of-product}
-use Rattle.matrices.proofs.Turning.{based, rowsTest, rows-tested, row-meets}
+use Rattle.matrices.proofs.RowTest.{rowsTest, longRow, row-same, long-meets}
 use Rattle.matrices.proofs.Weights.{oddTest, columns-odd}
 
 -- ---- the computed tests
+-- no block more: every bit is sent
+abbrev none : List Circ → List ℕ → ℕ → List (List ℕ)
+none ks ws c = []
+
 abbrev rowsOf : ℕ → Bool
-rowsOf code = rowsTest (circulantOf code) (dataBlocks code) (checkBlocks code) (circs code) (generator code)
+rowsOf code = rowsTest code none
 
 abbrev oddsOf : ℕ → Bool
 oddsOf code = let ks = circs code in below (bitBlocks code) (oddTest ks)
@@ -47,17 +52,11 @@ module _ (code : ℕ) (tc : TC code) where
   abbrev known : Known code
   known = omega arith
 
-  first-rows : (c a y : ℕ) → c < dataBlocks code → a < checkBlocks code → y < circulantOf code
-      → Even (sumRow (circulantOf code) (inRow (circs code) a) (based (circulantOf code) (dataBlocks code) (generator code) c) y)
-  first-rows =
-      rows-tested (circulantOf code) (dataBlocks code) (checkBlocks code) (circs code) (generator code) (below-at tcCodes rowsOf rows-hold code tc)
-
   -- every row of G meets every equation
   pub generator-meets : (i : ℕ) → i < rowOf code .k → Meets code (gEntry code i)
-  generator-meets i =
-      let b = circulantOf code in
-      of-edges code known (λ es m n k. i < k → Hold es m (systematic b k (generator code) i))
-      (row-meets b (dataBlocks code) (checkBlocks code) (sizes code known .some) (circs code) (generator code) first-rows i)
+  generator-meets i h =
+      meets-same code known (longRow code known none i) (gEntry code i)
+      (λ v l. ap (λ (x : ℕ). x % 2) (row-same code known none i v (omega (arith, tc-sent code tc)))) (long-meets code known none (below-at tcCodes rowsOf rows-hold code tc) i h)
 
   -- every frame meets every equation
   pub frame-meets : (d : ℕ → ℕ) → Meets code (frameOf code d)

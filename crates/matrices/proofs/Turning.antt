@@ -6,13 +6,12 @@ use Prim.Native.Nat.{ℕ, _+_, _-_, _*_, _/_, _%_, _≤_, _<_}
 use native.Mathlib.Nat.{mod-lt, mul-sub, mul-comm, div-add-mod', div-lt-iff-lt-mul, mul-le-mul-right}
 use native.Mathlib.Decide.{decLt}
 use native.Mathlib.Omega.{arith}
-use lib.Dec.{T, eqb, ltb, eqb→eq}
+use lib.Dec.{eqb, ltb}
 use lib.Arith.{digits-div, digits-mod, digits-lt}
 use borrow.Author.Tests.{lt-ltb, le-ltb}
-use Rattle.maths.specs.Tests.{pick, both, below}
+use Rattle.maths.specs.Tests.{pick, both}
 use Rattle.maths.specs.Sums.{Even}
 use Rattle.maths.specs.Ones.{delta}
-use Rattle.maths.proofs.Tests.{below-at}
 use Rattle.maths.proofs.Digits.{digits-eqb}
 use Rattle.maths.proofs.Turns.{turn-self, turn-eqb}
 use Rattle.codes.specs.Equations.{par, Hold}
@@ -72,13 +71,3 @@ module _ (b K mb : ℕ) (pos : 0 < b) (ks : List Circ) (G : ℕ → ℕ → ℕ)
       (subst Even (sym (row-par (i / b) (i % b) (a / b) (a % b) (mod-lt i pos) (mod-lt a pos)))
       (rows (i / b) (a / b) ((a % b + (b - i % b)) % b) (div-lt-iff-lt-mul pos .1 hi) (div-lt-iff-lt-mul pos .1 ha)
       (mod-lt (a % b + (b - i % b)) pos)))
-
--- the first row of each block of rows of G meets the equations
-abbrev pub rowsTest : ℕ → ℕ → ℕ → List Circ → (ℕ → ℕ → ℕ) → Bool
-rowsTest b K mb ks G =
-    below mb (λ a. let row = inRow ks a in below K (λ c. below b (λ y. eqb (sumRow b row (based b K G c) y % 2) 0)))
-
-pub rows-tested : (b K mb : ℕ) (ks : List Circ) (G : ℕ → ℕ → ℕ) → T (rowsTest b K mb ks G)
-    → (c a y : ℕ) → c < K → a < mb → y < b → Even (sumRow b (inRow ks a) (based b K G c) y)
-rows-tested b K mb ks G t c a y hc ha hy =
-    eqb→eq (sumRow b (inRow ks a) (based b K G c) y % 2) 0 (below-at b _ (below-at K _ (below-at mb _ t a ha) c hc) y hy)

@@ -3,7 +3,6 @@ pub mod Punctured
 pub mod Alone
 pub mod Votes
 pub mod Repeated
-pub mod Generator
 pub mod Tests
 pub mod Completed
 pub mod Clean

@@ -1,4 +1,4 @@
--- The sizes of a code in circulants: sent bits, punctured bits, parity, and the third row of blocks. Assumes nothing.
+-- The sizes of a code in circulants: sent bits, punctured bits, and the third row of blocks. Assumes nothing.
 use mathlib.Core.Path.{_≡_}
 use Prim.Native.Nat.{ℕ, _+_, _-_, _*_, _/_, _≤_}
 use lib.Dec.{leb, leb→le}
@@ -14,21 +14,13 @@ sentBlocks code = rowOf code .n / circulantOf code
 abbrev pub puncturedBlocks : ℕ → ℕ
 puncturedBlocks code = rowOf code .«punctured_bits» / circulantOf code
 
-abbrev pub parityBlocks : ℕ → ℕ
-parityBlocks code = (rowOf code .n - rowOf code .k) / circulantOf code
-
 -- the first row of circulants of the third row of blocks
 abbrev pub thirdBlock : ℕ → ℕ
 thirdBlock code = thirdRow code / circulantOf code
 
--- the words of a row of the generator
-abbrev pub wordsOf : ℕ → ℕ
-wordsOf code = (rowOf code .n - rowOf code .k) / 64
-
 pub record Cut (code : ℕ) : Type 0 where
   pub sent : sentBlocks code * circulantOf code ≡ rowOf code .n
   pub bits : bitBlocks code ≡ sentBlocks code + puncturedBlocks code
-  pub parity : parityBlocks code * circulantOf code ≡ rowOf code .n - rowOf code .k
   pub third : thirdBlock code * circulantOf code ≡ thirdRow code
   -- there is a check in the third row of blocks for each punctured bit
   pub room : thirdRow code + rowOf code .«punctured_bits» ≤ checksIn code
@@ -39,7 +31,6 @@ cut code h =
     record {
       sent = below-eq codes (λ c. sentBlocks c * circulantOf c) (λ c. rowOf c .n) tt code h;
       bits = below-eq codes bitBlocks (λ c. sentBlocks c + puncturedBlocks c) tt code h;
-      parity = below-eq codes (λ c. parityBlocks c * circulantOf c) (λ c. rowOf c .n - rowOf c .k) tt code h;
       third = below-eq codes (λ c. thirdBlock c * circulantOf c) thirdRow tt code h;
       room = leb→le _ (checksIn code) (below-at codes (λ c. leb (thirdRow c + rowOf c .«punctured_bits») (checksIn c)) tt code h);
     }
