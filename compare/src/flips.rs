@@ -21,7 +21,7 @@ fn iterations(x: &[usize], y: &[usize]) -> RangeInclusive<usize> {
     }
 }
 
-fn flipped(frame: &[u8], bits: &[usize]) -> Vec<u8> {
+pub fn flipped(frame: &[u8], bits: &[usize]) -> Vec<u8> {
     let mut word = frame.to_vec();
     bits.iter().for_each(|&bit| flip_bit(&mut word, bit));
     word
@@ -83,7 +83,7 @@ fn compare_three(i: usize, code: LDPCCode, cases: usize, dice: &mut Dice) -> usi
 }
 
 /// Random bits of which no two are the same.
-fn apart(code: LDPCCode, count: usize, dice: &mut Dice) -> Vec<usize> {
+pub fn apart(code: LDPCCode, count: usize, dice: &mut Dice) -> Vec<usize> {
     let mut bits = vec![];
     while bits.len() < count {
         let bit = dice.below(code.n());

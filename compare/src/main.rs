@@ -1,7 +1,7 @@
 //! Compares every answer, count and output byte of the two libraries, or times them: compare [CASES] | compare few | compare time
 mod both;
-mod clean;
 mod flips;
+mod telemetry;
 
 use both::*;
 use compare::archive::*;
@@ -275,8 +275,9 @@ fn compare_all(wanted: usize, least: usize) {
     let refused = compare_refusals();
     println!("| all, and unknown codes | every operation at wrong lengths | {refused} | | | |");
     let flipped = flips::compare_flips(2 * least);
-    let clean = clean::compare_clean(least);
-    println!("\n{} cases, no difference, {} s", total + refused + flipped + clean, start.elapsed().as_secs());
+    let clean = telemetry::compare_clean(least);
+    let damaged = telemetry::compare_telemetry_flips(least / 5);
+    println!("\n{} cases, no difference, {} s", total + refused + flipped + clean + damaged, start.elapsed().as_secs());
 }
 
 fn sink<T>(_: T) {}

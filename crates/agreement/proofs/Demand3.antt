@@ -46,12 +46,12 @@ llrs-of code frame before e z =
     ap (λ (x : Written ℤ). x .buffer) e ∙ rw t
 
 -- ---- what a success has: for each decoder, by the demands that it meets
-record Succeeded (code : ℕ) (output : List ℕ) : Type 0 where
-  meets : Meets code (bitAt output)
-  bytes : Bytes output
-  long : length output ≡ rowOf code .«output_len»
+pub record Succeeded (code : ℕ) (output : List ℕ) : Type 0 where
+  pub meets : Meets code (bitAt output)
+  pub bytes : Bytes output
+  pub long : length output ≡ rowOf code .«output_len»
 
-succeeded : {code : ℕ} {report : Report} {output : List ℕ} → Answered code report output → report .success ≡ true → Succeeded code output
+pub succeeded : {code : ℕ} {report : Report} {output : List ℕ} → Answered code report output → report .success ≡ true → Succeeded code output
 succeeded {code} (by-bit-flipping input old working working′ limit e) s =
     let b : Hard = record { input = input; output = old; working = working } in
     let y = sym (ap (λ (x : flip.Outcome). x .report .success) e) ∙ s in

@@ -1,12 +1,13 @@
--- Sender and receiver of a TM code: a sent frame has exactly one completion, and bit flipping returns it. One that fails, rests, copies or has one
--- answer does not. Assumes nothing.
+-- Sender and receiver of a TM code: a sent frame has exactly one completion, bit flipping returns it, and few flipped bits are noticed. A decoder that
+-- fails, rests, copies or has one answer does not return it. Assumes nothing.
 use mathlib.Core.Bool.{true}
 use mathlib.Core.List.{List, _∷_}
 use mathlib.Core.Path.{_≡_, refl, ap, _∙_}
-use Prim.Native.Nat.{ℕ, _/_, _%_, _≤_, _<_}
+use Prim.Native.Nat.{ℕ, _+_, _/_, _%_, _≤_, _<_}
 use native.Mathlib.Omega.{arith}
 use lib.ListN.{length, take}
 use Rattle.maths.specs.Bits.{bitAt}
+use Rattle.maths.specs.Distance.{distance}
 use Rattle.codes.specs.Codes.{TM, rows, rowOf}
 use Rattle.matrices.specs.Frames.{encodedBytes}
 use Rattle.report.specs.declared.Report.{Report}
@@ -14,14 +15,15 @@ use Rattle.report.specs.Report.{ending}
 use Rattle.bit_flip.specs.Outcome as flip
 use Rattle.telemetry.specs.Completion.{completionBytes, Completes}
 use Rattle.telemetry.proofs.Clean.{completes-once, completes-front}
-use Rattle.agreement.specs.Parties.{Sent, by-copy-encode}
+use Rattle.tm_distance.proofs.Frames.{frame-four, near-completes}
+use Rattle.agreement.specs.Parties.{Sent, Answered, by-copy-encode}
 use Rattle.agreement.specs.Demands.{Decoder, FrameCompletes}
 use Rattle.agreement.specs.Ours.{Hard, bitFlipping}
 use Rattle.agreement.specs.Examples.{zeros}
 use Rattle.agreement.specs.Idle.{fails, rests, decodesAlike, copies, NoIdleCompleter}
 use Rattle.agreement.proofs.Sender as sender
 use Rattle.agreement.proofs.BitFlip.{bit-flip-telemetry, call-accepted, call-told}
-use Rattle.agreement.proofs.Demand3.{back}
+use Rattle.agreement.proofs.Demand3.{succeeded, back, success-meets}
 use Rattle.agreement.proofs.Idle.{bytes-then}
 
 module _ {code : ℕ} (tm : TM code) {frame : List ℕ} (sent : Sent code frame) where
@@ -44,6 +46,28 @@ module _ {code : ℕ} (tm : TM code) {frame : List ℕ} (sent : Sent code frame)
   unchanged-telemetry old working limit k e a =
       let b : Hard = record { input = frame; output = old; working = working } in
       back (call-told code b limit e ∙ bit-flip-telemetry code b limit tm sent (call-accepted code b limit e a) k)
+
+  -- ---- any decoder, whatever it reads and whatever the limit
+  module _ (received : List ℕ) {report : Report} {output : List ℕ} (a : Answered code report output) (success : report .success ≡ true) where
+    -- with one to three bits of the frame flipped, no success begins with what was received
+    pub telemetry-noticed : 0 < distance frame received → distance frame received < 4 → take (rowOf code .n / 8) output ≡ received → ⊥
+    telemetry-noticed some few e =
+        let four = frame-four code tm frame (completionBytes code frame) (sender.sent-bytes sent) (sender.sent-length sent) sent-completes output (success-meets a success) in
+        omega (arith, few, rw e at (four (rw e some)))
+
+    -- a success begins with the frame, and is its completion, if the way from the frame over what was received to its first n bits is of three bits at most
+    pub telemetry-near : length received ≡ rowOf code .n / 8 → distance frame received + distance received (take (rowOf code .n / 8) output) ≤ 3
+        → (take (rowOf code .n / 8) output ≡ frame) × (output ≡ completionBytes code frame)
+    telemetry-near long near =
+        let y = succeeded a success in
+        let c = near-completes code tm frame (completionBytes code frame) (sender.sent-bytes sent) (sender.sent-length sent) sent-completes
+        received output long near (y .long) (y .bytes) (y .meets) in
+        (completes-front code tm frame output (sender.sent-bytes sent) (sender.sent-length sent) c, sent-completes-once output c)
+
+    -- so with at most one flipped, a success within two bits of it
+    pub telemetry-corrected : length received ≡ rowOf code .n / 8 → distance frame received ≤ 1 → distance received (take (rowOf code .n / 8) output) ≤ 2
+        → (take (rowOf code .n / 8) output ≡ frame) × (output ≡ completionBytes code frame)
+    telemetry-corrected long one near = telemetry-near long (omega arith)
 
 -- ---- idle versions: two messages of TM1280, their frames, and calls that are accepted
 abbrev message : ℕ → List ℕ

@@ -1,15 +1,15 @@
 -- The sizes of the codes' frames, and a frame of parity bits that is the code's. Assumes nothing.
 use mathlib.Core.List.{List, [], _++_, append-nil}
-use mathlib.Core.Path.{_≡_, refl, ap, ap₂, _∙_}
+use mathlib.Core.Path.{_≡_, refl, sym, ap, ap₂, _∙_}
 use Prim.Native.Nat.{ℕ, _+_, _-_, _*_, _/_, _%_, _≤_, _<_}
 use native.Mathlib.Omega.{arith}
 use lib.Dec.{leb, leb→le}
 use lib.ListN.{length, take, drop, drop-of-length-le}
-use lib.Seq.{getD-take}
 use Rattle.maths.specs.Lists.{span}
 use Rattle.maths.specs.Bits.{bitAt}
 use Rattle.maths.proofs.Tests.{below-at}
 use Rattle.maths.proofs.Lists.{span-same}
+use Rattle.maths.proofs.Bytes.{bitAt-take}
 use Rattle.codes.specs.declared.CodeParams.{CodeParams}
 use Rattle.codes.specs.Words.{generators}
 use Rattle.codes.specs.Codes.{codes, Known, rows, rowOf, generatorOf}
@@ -64,7 +64,7 @@ placed-frame code h s e =
     ∙ ap (λ (x : List ℕ). take k8 s ++ x) (append-nil _)
   where
     same : (i : ℕ) → i < rowOf code .k → bitAt s i ≡ bitAt (take (rowOf code .k / 8) s) i
-    same i l = rw (getD-take (rowOf code .k / 8) s (i / 8) 0 (omega (arith, data-whole code h)))
+    same i l = sym (bitAt-take (rowOf code .k / 8) s i (omega (arith, data-whole code h)))
 
 -- ---- by a row and words that are the code's
 module _ (code : ℕ) (h : Known code) (row : CodeParams) (g : List ℕ) (is-row : row ≡ rowOf code) (is-words : g ≡ generatorOf code) (s : List ℕ) (e : length s ≡ rowOf code .n / 8) where

@@ -31,6 +31,13 @@ checkTo b x k = k .row * b + (x + (b - k .turn % b)) % b
 abbrev pub bitsOn : ℕ → List Circ → ℕ → List ℕ
 bitsOn b ks c = let t = c % b in map (spot b t) (inRow ks (c / b))
 
+-- the same, out of a list of the rows
+abbrev pub rowsOf : List Circ → ℕ → List (List Circ)
+rowsOf ks mb = span (inRow ks) 0 mb
+
+abbrev pub bitsIn : ℕ → List (List Circ) → ℕ → List ℕ
+bitsIn b rows c = let t = c % b in map (spot b t) (getD rows (c / b) [])
+
 -- the circulants of nb columns, each by mb rows
 abbrev pub columnOf : List Circ → ℕ → ℕ → List (List Circ)
 columnOf ks mb p = span (λ a. inColumn (inRow ks a) p) 0 mb
@@ -68,6 +75,16 @@ module _ (b mb nb : ℕ) (pos : 0 < b) (ks : List Circ) (ranged : T (all (inside
   row-empty a h =
       keep-nothing (inside mb nb) (λ k. eqb (k .row) a) ks ranged
       (λ k t. ne-eqb (k .row) a (λ e. omega (arith, ltb→lt (k .row) mb (both-left (ltb (k .row) mb) (ltb (k .col) nb) t))))
+
+  row-at : (a : ℕ) → getD (rowsOf ks mb) a [] ≡ inRow ks a
+  row-at a = go (decLt a mb)
+    where
+      go : Dec (a < mb) → getD (rowsOf ks mb) a [] ≡ inRow ks a
+      go (yes h) = span-get (inRow ks) [] mb a h
+      go (no h) = List·getD-eq-default (rowsOf ks mb) [] {n = a} (rw (span-length (inRow ks) 0 mb) (omega arith)) ∙ sym (row-empty a (omega arith))
+
+  pub bits-in : bitsIn b (rowsOf ks mb) ≡ bitsOn b ks
+  bits-in = fun-ext (λ c. ap (map (spot b (c % b))) (row-at (c / b)))
 
   column-at : (p a : ℕ) → p < nb → getD (getD (columnsOf ks mb nb) p []) a [] ≡ inColumn (inRow ks a) p
   column-at p a hp = rw (span-get (columnOf ks mb) [] nb p hp) (go (decLt a mb))

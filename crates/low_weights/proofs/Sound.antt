@@ -4,7 +4,7 @@ use mathlib.Core.Logic.{_⊎_, inl, inr}
 use mathlib.Core.Path.{_≡_, refl, sym, ap, _∙_, fun-ext}
 use mathlib.Core.List.{List, [], _∷_}
 use Prim.Native.Nat.{ℕ, zero, suc, _+_, _*_, _%_, _≤_, _<_}
-use native.Mathlib.Nat.{mul-one, mul-le-mul-left}
+use native.Mathlib.Nat.{mul-comm, mul-le-mul-left}
 use native.Mathlib.Decide.{ℕ-discrete}
 use native.Mathlib.Omega.{arith}
 use lib.Dec.{T, eqb, ltb, ltb→lt}
@@ -16,7 +16,7 @@ use Rattle.maths.specs.Sums.{sumL, sumN, Even}
 use Rattle.maths.specs.Ones.{delta}
 use Rattle.maths.proofs.Tests.{both-left, both-right}
 use Rattle.maths.proofs.Search.{either-cases}
-use Rattle.maths.proofs.Sums.{sumL-add, sumL-mul, sumL-sumN, sumN-ext, sumN-le, sumN-add}
+use Rattle.maths.proofs.Sums.{sumL-add, sumL-mul, sumL-sumN, sumN-ext, sumN-le, sumN-add, sumN-mul}
 use Rattle.maths.proofs.Ones.{delta-swap, sum-counts, sum-delta}
 use Rattle.low_weights.proofs.Occurs.{occurs, Once, toggles-occurs, length-below, occurs-within}
 use Rattle.low_weights.proofs.Rows.{toggleRows, toggle-rows-at, first, first-found, excess, excess-below}
@@ -60,15 +60,15 @@ taken n w u hu one =
 abbrev bitsAt : (ℕ → List ℕ) → (ℕ → ℕ) → ℕ → ℕ → List ℕ
 bitsAt bits row a c = pick (eqb (row c) a) (bits c) []
 
--- checks, each in a row, and bits by the lists of their ends, which agree; a bit has one check in a row, or two in at most one
-module _ (bits : ℕ → List ℕ) (checks : ℕ → List (List ℕ)) (row : ℕ → ℕ) (start n : ℕ)
+-- checks, each in a row, and bits by the lists of their ends, which agree; a bit has at most so many beyond one in a row
+module _ (bits : ℕ → List ℕ) (checks : ℕ → List (List ℕ)) (row : ℕ → ℕ) (most start n : ℕ)
     (dual : (u c a : ℕ) → u < n → occurs (getD (checks u) a []) c ≡ occurs (bitsAt bits row a c) u)
     (low : (c : ℕ) → T (all (λ v. ltb v n) (bits c)))
-    (few : (u : ℕ) → u < n → excess 1 (checks u) ≤ 1) where
+    (few : (u : ℕ) → u < n → excess 1 (checks u) ≤ most) where
   -- what is left of a word at a place of the search
   record Left (r : ℕ) (chosen : List ℕ) (odd : List (List ℕ)) (w : ℕ → ℕ) : Type 0 where
     bit : (v : ℕ) → w v < 2
-    away : (v : ℕ) → T (shut bits checks start chosen v) → w v ≡ 0
+    away : (v : ℕ) → T (shut bits checks most start chosen v) → w v ≡ 0
     light : sumN n w ≤ r
     same : (a c : ℕ) → occurs (getD odd a []) c ≡ sumL (bitsAt bits row a c) w % 2
 
@@ -98,13 +98,14 @@ module _ (bits : ℕ → List ℕ) (checks : ℕ → List (List ℕ)) (row : ℕ
         low-at true c = low c
         low-at false c = tt
 
-    room : excess r odd ≤ r
+    room : excess r odd ≤ most * r
     room =
         omega (
           arith,
           excess-below n r w (left .light) odd checks row-room,
-          sumN-le n (λ v. w v * excess 1 (checks v)) w (λ v h. omega (arith, mul-le-mul-left (w v) (few v h), mul-one (w v))),
-          left .light,
+          sumN-le n (λ v. w v * excess 1 (checks v)) (λ v. most * w v) (λ v h. omega (arith, mul-le-mul-left (w v) (few v h), mul-comm (w v) most)),
+          sumN-mul most n w,
+          mul-le-mul-left most (left .light),
         )
 
   -- a one taken out
@@ -122,7 +123,7 @@ module _ (bits : ℕ → List ℕ) (checks : ℕ → List (List ℕ)) (row : ℕ
             (omega (arith, split, toggles-occurs (getD (checks u) a []) (getD odd a []) (once (suc r) chosen odd w left a) c, dual u c a hu, left .same a c));
       }
     where
-      away : (v : ℕ) → T (shut bits checks start (u ∷ chosen) v) → without u w v ≡ 0
+      away : (v : ℕ) → T (shut bits checks most start (u ∷ chosen) v) → without u w v ≡ 0
       away v t = go (ltb v start) (eqb v u) t (left .away v)
         where
           go : (a b : Bool) → T (either a (elim b [ true ↦ true | false ↦ member v chosen ])) → (T (either a (member v chosen)) → w v ≡ 0)
@@ -145,27 +146,27 @@ module _ (bits : ℕ → List ℕ) (checks : ℕ → List (List ℕ)) (row : ℕ
           go true e = omega arith
           go false e = absurd (omega arith)
 
-  sound : (r : ℕ) (chosen : List ℕ) (odd : List (List ℕ)) (w : ℕ → ℕ) → Left r chosen odd w → T (none bits checks start r chosen odd) → ⊥
+  sound : (r : ℕ) (chosen : List ℕ) (odd : List (List ℕ)) (w : ℕ → ℕ) → Left r chosen odd w → T (none bits checks most start r chosen odd) → ⊥
   sound zero chosen odd w left t =
       let f = first-one zero chosen odd w left (λ c. true) (λ v. ltb v n) (λ c _. low c) t in
       omega (arith, taken n w (f .0) (f .1) (f .2), left .light)
-  sound (suc r) chosen odd w left t = go (either-cases (ltb (suc r) (excess (suc r) odd)) _ t) (sound r)
+  sound (suc r) chosen odd w left t = go (either-cases (ltb (most * suc r) (excess (suc r) odd)) _ t) (sound r)
     where
-      go : T (ltb (suc r) (excess (suc r) odd)) ⊎ T (branch bits checks start (none bits checks start r) chosen odd)
-          → ((chosen : List ℕ) (odd : List (List ℕ)) (w : ℕ → ℕ) → Left r chosen odd w → T (none bits checks start r chosen odd) → ⊥) → ⊥
-      go (inl h) next = omega (arith, ltb→lt (suc r) (excess (suc r) odd) h, room (suc r) chosen odd w left)
+      go : T (ltb (most * suc r) (excess (suc r) odd)) ⊎ T (branch bits checks most start (none bits checks most start r) chosen odd)
+          → ((chosen : List ℕ) (odd : List (List ℕ)) (w : ℕ → ℕ) → Left r chosen odd w → T (none bits checks most start r chosen odd) → ⊥) → ⊥
+      go (inl h) next = omega (arith, ltb→lt (most * suc r) (excess (suc r) odd) h, room (suc r) chosen odd w left)
       go (inr h) next =
           let f = first-one (suc r) chosen odd w left _ _ (λ c each. each) h in
-          at-one (f .0) (f .1) (f .2) (either-cases (shut bits checks start chosen (f .0)) _ (f .3))
+          at-one (f .0) (f .1) (f .2) (either-cases (shut bits checks most start chosen (f .0)) _ (f .3))
         where
           at-one : (u : ℕ) → u < n → w u ≡ 1
-              → T (shut bits checks start chosen u) ⊎ T (none bits checks start r (u ∷ chosen) (toggleRows (checks u) odd)) → ⊥
+              → T (shut bits checks most start chosen u) ⊎ T (none bits checks most start r (u ∷ chosen) (toggleRows (checks u) odd)) → ⊥
           at-one u hu one (inl m) = omega (arith, left .away u m)
           at-one u hu one (inr m) = next (u ∷ chosen) (toggleRows (checks u) odd) (without u w) (step r chosen odd w left u hu one) m
 
   -- no word with its first one at `start`, and r more at most, has even checks only
   pub none-light : (r : ℕ) (w : ℕ → ℕ) → ((v : ℕ) → w v < 2) → ((v : ℕ) → v < start → w v ≡ 0) → start < n → w start ≡ 1 → sumN n w ≤ suc r
-      → ((c : ℕ) → Even (sumL (bits c) w)) → T (noneBeside bits checks start r) → ⊥
+      → ((c : ℕ) → Even (sumL (bits c) w)) → T (noneBeside bits checks most start r) → ⊥
   none-light r w bit before h one light even t =
       let whole : Left (suc r) [] [] w =
       record { bit = bit; away = away; light = light; same = λ a c. same c (eqb (row c) a) } in
@@ -175,7 +176,7 @@ module _ (bits : ℕ → List ℕ) (checks : ℕ → List (List ℕ)) (row : ℕ
       same c true = sym (even c)
       same c false = refl
 
-      away : (v : ℕ) → T (shut bits checks start [] v) → w v ≡ 0
+      away : (v : ℕ) → T (shut bits checks most start [] v) → w v ≡ 0
       away v t = go (either-cases (ltb v start) false t)
         where
           go : T (ltb v start) ⊎ T false → w v ≡ 0

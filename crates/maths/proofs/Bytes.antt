@@ -25,6 +25,10 @@ bitAt-past s v h =
     let k : length s ≤ v / 8 = omega arith in
     rw (List·getD-eq-default s 0 k, zero-div (2 ^ (7 - v % 8)))
 
+-- the bits of the first bytes
+pub bitAt-take : (n : ℕ) (s : List ℕ) (v : ℕ) → v < 8 * n → bitAt (take n s) v ≡ bitAt s v
+bitAt-take n s v h = rw (getD-take n s (v / 8) 0 (omega arith))
+
 -- bit j of byte i
 pub bit-of : (s : List ℕ) (i j : ℕ) → j < 8 → bitAt s (i * 8 + j) ≡ getD s i 0 / 2 ^ (7 - j) % 2
 bit-of s i j h = rw (digits-div i {m = 8} {r = j} h, digits-mod i {m = 8} {r = j} h)

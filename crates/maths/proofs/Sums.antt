@@ -103,6 +103,10 @@ sumN-add zero f g = refl
 sumN-add (suc n) f g = omega (arith, sumN-add n f g)
 
 -- a sum of m + n, and of m blocks of b
+pub sumN-mul : (d n : ℕ) (f : ℕ → ℕ) → sumN n (λ i. d * f i) ≡ d * sumN n f
+sumN-mul d zero f = sym (mul-zero d)
+sumN-mul d (suc n) f = ap (λ (x : ℕ). x + d * f n) (sumN-mul d n f) ∙ sym (mul-add d (sumN n f) (f n))
+
 pub sumN-plus : (m n : ℕ) (f : ℕ → ℕ) → sumN (m + n) f ≡ sumN m f + sumN n (λ t. f (m + t))
 sumN-plus m zero f = rw (add-zero m) (sym (add-zero (sumN m f)))
 sumN-plus m (suc n) f = rw add-suc (omega (arith, sumN-plus m n f))

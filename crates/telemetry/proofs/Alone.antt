@@ -32,6 +32,9 @@ alone-holds : T (below tmCodes (λ c. allAlone (tcCodes + c)))
 unfolding rows tables prototypes thetas phis circs flatMap blockCircs circsAt span blocksOf lastRows rowBlocks cellBlocks blockOf
 alone-holds = tt
 
+pub all-alone : (code : ℕ) → TM code → T (aloneTest (sentBlocks code) (bitBlocks code) (puncturedBlocks code) (thirdBlock code) (circs code))
+all-alone = tm-at allAlone alone-holds
+
 -- ---- a punctured bit, by block and offset
 module _ (code : ℕ) (tm : TM code) (v : ℕ) (h : rowOf code .n ≤ v) (h′ : v < bitsIn code) where
   abbrev b : ℕ
@@ -60,14 +63,14 @@ module _ (code : ℕ) (tm : TM code) (v : ℕ) (h : rowOf code .n ≤ v) (h′ :
   pub alone-one : aloneOf code v ≡ lone code v ∷ []
   alone-one =
       let (low, bit, check) = place in
-      let a = alone-block b (sentBlocks code) (bitBlocks code) pos (puncturedBlocks code) (thirdBlock code) (circs code) (tm-at allAlone alone-holds code tm) from (v % b) low (mod-lt v pos) in
+      let a = alone-block b (sentBlocks code) (bitBlocks code) pos (puncturedBlocks code) (thirdBlock code) (circs code) (all-alone code tm) from (v % b) low (mod-lt v pos) in
       rw (cut code (tm .1) .sent, sizes code (tm .1) .bit-blocks, bit, check, ← edges-circs code (tm .1)) at a
 
   -- of the punctured bits that check has this one alone
   pub lone-sum : (w : ℕ → ℕ) → sumL (bitsOf (edges code) (lone code v)) (λ u. pick (punctured code u) (w u) 0) ≡ w v
   lone-sum w =
       let (low, bit, check) = place in
-      let a = lone-block b (sentBlocks code) (bitBlocks code) pos (puncturedBlocks code) (thirdBlock code) (circs code) (tm-at allAlone alone-holds code tm) from (v % b) low (mod-lt v pos) w in
+      let a = lone-block b (sentBlocks code) (bitBlocks code) pos (puncturedBlocks code) (thirdBlock code) (circs code) (all-alone code tm) from (v % b) low (mod-lt v pos) w in
       of-edges code (tm .1) (λ es m n k. par es (λ u. pick (fromOn (rowOf code .n) n u) (w u) 0) (lone code v) ≡ w v)
       (subst (λ (x : ℕ). par (edgesOf b (circs code)) (λ u. pick (fromOn x (bitBlocks code * b) u) (w u) 0) (lone code v) ≡ w v) (cut code (tm .1) .sent)
       (subst₂ (λ (x y : ℕ). par (edgesOf b (circs code)) (λ u. pick (fromOn (sentBlocks code * b) (bitBlocks code * b) u) (w u) 0) x ≡ w y) check bit a))

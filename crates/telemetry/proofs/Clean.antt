@@ -2,20 +2,20 @@
 use mathlib.Core.Bool.{true}
 use mathlib.Core.List.{List}
 use mathlib.Core.Path.{_≡_, sym, ap, ap₂, _∙_, subst}
-use Prim.Native.Nat.{ℕ, _-_, _*_, _/_, _%_, _^_, _≤_, _<_}
+use Prim.Native.Nat.{ℕ, _*_, _/_, _%_, _≤_, _<_}
 use native.Mathlib.Nat.{mod-mod, mod-eq-of-lt}
 use native.Mathlib.Omega.{arith}
 use borrow.Author.Tests.{le-ltb, lt-leb}
 use lib.Dec.{leb}
 use lib.ListN.{length, take, replicate}
-use lib.Seq.{length-take-le, getD-take}
+use lib.Seq.{length-take-le}
 use Rattle.maths.specs.Bits.{bitAt}
 use Rattle.maths.specs.Bytes.{Bytes, pack}
 use Rattle.maths.specs.Lists.{span}
 use Rattle.maths.proofs.Tests.{both-false}
 use Rattle.maths.proofs.Lists.{span-length}
 use Rattle.maths.proofs.Slices.{span-whole}
-use Rattle.maths.proofs.Bytes.{bitAt-low, bitAt-past, length-pack, bytes-pack, bitAt-pack, bits-same, bytes-take}
+use Rattle.maths.proofs.Bytes.{bitAt-low, bitAt-past, bitAt-take, length-pack, bytes-pack, bitAt-pack, bits-same, bytes-take}
 use Rattle.codes.specs.Codes.{Known, TM, rowOf, bitsIn}
 use Rattle.codes.specs.Edges.{edges}
 use Rattle.codes.specs.Equations.{Meets, wordOf}
@@ -85,7 +85,7 @@ module _ (code : ℕ) (tm : TM code) where
       let r = roomy code known in
       let l : length (take m word) ≡ m = length-take-le m word (omega (arith, c .long, r .whole, r .sent)) in
       bits-same (take m word) frame (l ∙ sym len) (bytes-take m word l (c .bytes)) bytes
-      (λ v h. ap (λ (x : ℕ). x / 2 ^ (7 - v % 8) % 2) (getD-take m word (v / 8) 0 (omega arith)) ∙ c .front v (omega (arith, r .sent)))
+      (λ v h. bitAt-take m word v (omega arith) ∙ c .front v (omega (arith, r .sent)))
 
   -- ---- the frame of a message
   module _ (msg : List ℕ) (len : length msg ≡ rowOf code .k / 8) where

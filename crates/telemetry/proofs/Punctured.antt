@@ -51,6 +51,11 @@ module _ (nb tb : ℕ) where
   aloneTest pb r ks =
       below pb (λ j. both (single (r + j) (nb + j) (aloneIn ks (nb + j))) (single (r + j) (nb + j) (punct (inRow ks (r + j)))))
 
+  -- in that row it is the only punctured one
+  pub punct-is : (pb r : ℕ) (ks : List Circ) → T (aloneTest pb r ks) → (j : ℕ) → j < pb → punct (inRow ks (r + j)) ≡ circ (r + j) (nb + j) 0 ∷ []
+  punct-is pb r ks test j hj =
+      single-is (r + j) (nb + j) _ (both-right (single (r + j) (nb + j) (aloneIn ks (nb + j))) _ (below-at pb _ test j hj))
+
 module _ (b nb tb : ℕ) (pos : 0 < b) where
   from-block : (q x : ℕ) → x < b → fromOn (nb * b) (tb * b) (q * b + x) ≡ fromOn nb tb q
   from-block q x hx = ap₂ both (low (decLt q nb)) (high (decLt q tb))
@@ -100,9 +105,6 @@ module _ (b nb tb : ℕ) (pos : 0 < b) where
     alone-is : aloneIn nb tb ks (nb + j) ≡ at ∷ []
     alone-is = single-is (r + j) (nb + j) _ (both-left (single (r + j) (nb + j) (aloneIn nb tb ks (nb + j))) _ (below-at pb _ test j hj))
 
-    punct-is : punct nb tb (inRow ks (r + j)) ≡ at ∷ []
-    punct-is = single-is (r + j) (nb + j) _ (both-right (single (r + j) (nb + j) (aloneIn nb tb ks (nb + j))) _ (below-at pb _ test j hj))
-
     -- the checks of a punctured bit with no other punctured edge are one
     pub alone-block : keep (λ a. eqb (holes (fromOn (nb * b) (tb * b)) (edgesOf b ks) a) 1) (checksOf (edgesOf b ks) ((nb + j) * b + x)) ≡ ((r + j) * b + x) ∷ []
     alone-block =
@@ -121,6 +123,6 @@ module _ (b nb tb : ℕ) (pos : 0 < b) where
     pub lone-block : (w : ℕ → ℕ) → par (edgesOf b ks) (only w) ((r + j) * b + x) ≡ w ((nb + j) * b + x)
     lone-block w =
         par-only ks w (r + j) x hx
-        ∙ ap (λ (js : List Circ). sumRow b js (λ q y. w (q * b + y)) x) punct-is
+        ∙ ap (λ (js : List Circ). sumRow b js (λ q y. w (q * b + y)) x) (punct-is nb tb pb r ks test j hj)
         ∙ add-zero (w ((nb + j) * b + (0 + x) % b))
         ∙ ap (λ (y : ℕ). w ((nb + j) * b + y)) (ap (λ (y : ℕ). y % b) (zero-add x) ∙ mod-eq-of-lt hx)

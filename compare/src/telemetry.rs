@@ -1,5 +1,6 @@
-//! Unchanged TM frames: bit flipping returns them with the bits that were not sent, and what min-sum does with them.
+//! TM frames: unchanged, as bit flipping returns them with the bits that were not sent; and damaged, as no decoder may call them good.
 use crate::both::*;
+use crate::flips::{apart, flipped};
 use compare::*;
 use labrador_ldpc::LDPCCode;
 
@@ -36,7 +37,7 @@ fn meets(code: LDPCCode, word: &[u8]) -> bool {
 }
 
 /// Bit flipping returns the frame completed, at 0, with limits from 1 on. Of min-sum nothing is promised: every tenth frame shows what it does.
-fn compare_code(i: usize, code: LDPCCode, cases: usize, dice: &mut Dice) -> usize {
+fn compare_unchanged(i: usize, code: LDPCCode, cases: usize, dice: &mut Dice) -> usize {
     let lone = lone_checks(code);
     let (mut hard, mut soft) = (Returned::default(), Returned::default());
     for case in 0..cases {
@@ -55,8 +56,44 @@ fn compare_code(i: usize, code: LDPCCode, cases: usize, dice: &mut Dice) -> usiz
     hard.show(&format!("{code:?} | decode_bf"), 0) + soft.show(&format!("{code:?} | decode_ms i8"), 0)
 }
 
+/// A success does not begin with the received word, and is the frame completed if the way from it over that word is of three bits at most.
+fn hold_damaged(what: &str, code: LDPCCode, flips: usize, word: &[u8], whole: &[u8], (success, _, output): &Left) {
+    let front = &output[..code.n() / 8];
+    let way = flips + (0..code.n()).filter(|&bit| bit_at(word, bit) != bit_at(front, bit)).count();
+    let kept = !success || front != word && (way > 3 || output == whole);
+    hold(what, code, word, output, "not what was received, and the frame if it is near", kept);
+}
+
+/// One to three bits flipped, random ones. That any frame comes back is not promised: the rows show how many did.
+fn compare_damaged(i: usize, code: LDPCCode, flips: usize, cases: usize, dice: &mut Dice) -> usize {
+    let lone = lone_checks(code);
+    let (mut hard, mut soft) = (Returned::default(), Returned::default());
+    for _ in 0..cases {
+        let frame = frame(code, dice);
+        let whole = completed(code, &lone, &frame);
+        let word = flipped(&frame, &apart(code, flips, dice));
+        let left = decode_bf_both(i, code, &word, 20, dice);
+        hold_damaged("decode_bf", code, flips, &word, &whole, &left);
+        hard.add(&left, &whole);
+        let left = decode_ms_both(i, code, &confident(&word, 1), 20, dice);
+        hold_damaged("decode_ms", code, flips, &word, &whole, &left);
+        soft.add(&left, &whole);
+    }
+    hard.show(&format!("{code:?} | {flips} | decode_bf"), 0) + soft.show(&format!("{code:?} | {flips} | decode_ms i8"), 0)
+}
+
+/// Random frames of each TM code with one, two and three bits flipped.
+pub fn compare_telemetry_flips(cases: usize) -> usize {
+    println!("\n| code | flipped bits | operation | cases | the frame, completed, at 0 | at 1 | at 2 | at 3 | later | another word | limit spent |\n|-|-|-|-|-|-|-|-|-|-|-|");
+    let damaged = |(i, &code)| {
+        let mut dice = Dice::new(91 + i as u64);
+        (1..=3).map(|flips| compare_damaged(i, code, flips, cases, &mut dice)).sum::<usize>()
+    };
+    CODES.iter().enumerate().skip(3).map(damaged).sum()
+}
+
 /// Random frames of each TM code, unchanged.
 pub fn compare_clean(cases: usize) -> usize {
     println!("\n| code | operation | cases | the frame, completed, at 0 | at 1 | at 2 | at 3 | later | another word | limit spent |\n|-|-|-|-|-|-|-|-|-|-|");
-    CODES.iter().enumerate().skip(3).map(|(i, &code)| compare_code(i, code, cases, &mut Dice::new(61 + i as u64))).sum()
+    CODES.iter().enumerate().skip(3).map(|(i, &code)| compare_unchanged(i, code, cases, &mut Dice::new(61 + i as u64))).sum()
 }

@@ -1,0 +1,4 @@
+pub mod Reduced
+pub mod Tests
+pub mod Weights
+pub mod Frames
