@@ -14,7 +14,7 @@ use Rattle.codes.specs.Codes.{TM, rowOf, bitsIn, checksIn}
 use Rattle.codes.specs.Edges.{edges}
 use Rattle.codes.specs.Equations.{wordOf, holds}
 use Rattle.report.specs.declared.Report.{Report}
-use Rattle.report.specs.Report.{refusal, ending}
+use Rattle.report.specs.Report.{refusal, ending, Told, told}
 use Rattle.bit_flip.specs.Flip.{flipped, pass, passes}
 use Rattle.bit_flip.specs.Erasures.{erasurePasses}
 use Rattle.bit_flip.specs.Outcome.{Outcome, left, decodeWord, received, punctured, decoded, outcome}
@@ -22,7 +22,7 @@ use Rattle.bit_flip.proofs.Theorems.{answerOf, is-accepted, success-meets, clea
 use Rattle.telemetry.specs.Completion.{completionBytes, Completes}
 use Rattle.telemetry.proofs.Clean.{unchanged}
 use Rattle.agreement.specs.Parties.{Sent}
-use Rattle.agreement.specs.Demands.{Told, told, DecodesByTable, SuccessMeets, FrameReturns, FrameCompletes, CountsPasses, DecodesAs}
+use Rattle.agreement.specs.Demands.{DecodesByTable, SuccessMeets, FrameReturns, FrameCompletes, CountsPasses, DecodesAs}
 use Rattle.agreement.specs.Ours.{Hard, bitFlip, flippedIn, bitFlipping}
 use Rattle.agreement.proofs.Sender.{of-message, sent-bytes, sent-meets, sent-completes}
 use Rattle.agreement.proofs.Counting.{run-counted}

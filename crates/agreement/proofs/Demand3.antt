@@ -18,7 +18,7 @@ use Rattle.codes.proofs.Codes.{lengths}
 use Rattle.matrices.proofs.Sizes.{tc-bits}
 use Rattle.low_weights.proofs.Distances.{near-same, wrong-noticed}
 use Rattle.report.specs.declared.Report.{Report}
-use Rattle.report.specs.Report.{ending}
+use Rattle.report.specs.Report.{ending, Told, told}
 use Rattle.bit_flip.specs.Outcome as flip
 use Rattle.two_flips.specs.Flips.{PairFlips}
 use Rattle.two_flips.proofs.Frames as flips
@@ -30,7 +30,6 @@ use Rattle.min_sum.proofs.Success.{steady}
 use Rattle.soft_flip.specs.OneSize.{OneSize}
 use Rattle.soft_flip.proofs.Frames.{llrs-one-size}
 use Rattle.agreement.specs.Parties.{Sent, Answered, by-bit-flipping, by-min-sum}
-use Rattle.agreement.specs.Demands.{Told, told}
 use Rattle.agreement.specs.Ours.{Hard, bitFlip, bitFlipping, Soft, minSum, minSumming}
 use Rattle.agreement.proofs.Sender as sender
 use Rattle.agreement.proofs.BitFlip.{bit-flip-meets, bit-flip-returns, bit-flip-accepted, bit-flip-bytes, bit-flip-length, call-accepted, call-told}

@@ -14,8 +14,8 @@ use Rattle.codes.specs.Words.{generators}
 use Rattle.codes.specs.Answers.{firstOf}
 use Rattle.codes.specs.Codes.{rows, rowOf}
 use Rattle.codes.proofs.Remaining.{begin}
-use Rattle.matrices.specs.Frames.{encodedBytes}
-use Rattle.matrices.proofs.Sizes.{edge-count}
+use Rattle.codes.specs.Frames.{encodedBytes}
+use Rattle.codes.proofs.Codes.{edge-count}
 use Rattle.encoder.specs.Rotation.{placed, rotated}
 use Rattle.report.specs.Report.{ending}
 use Rattle.bit_flip.specs.Outcome as flip

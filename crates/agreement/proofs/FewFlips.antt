@@ -8,7 +8,7 @@ use lib.IntN.{ℤ}
 use Rattle.maths.specs.Distance.{distance, places}
 use Rattle.codes.specs.Codes.{TC}
 use Rattle.codes.specs.Edges.{edges}
-use Rattle.report.specs.Report.{ending}
+use Rattle.report.specs.Report.{ending, told}
 use Rattle.bit_flip.specs.Outcome as flip
 use Rattle.two_flips.specs.Flips.{PairFlips}
 use Rattle.two_flips.proofs.Frames as flips
@@ -19,7 +19,7 @@ use Rattle.min_sum.proofs.Success.{steady}
 use Rattle.soft_flip.specs.OneSize.{OneSize}
 use Rattle.soft_flip.proofs.Frames as softly
 use Rattle.agreement.specs.Parties.{Sent}
-use Rattle.agreement.specs.Demands.{told, FewFlipsReturn}
+use Rattle.agreement.specs.Demands.{FewFlipsReturn}
 use Rattle.agreement.specs.Ours.{Hard, bitFlip, bitFlipping, anyBits, Soft, minSum, minSumming, oneSized}
 use Rattle.agreement.proofs.Sender.{sent-bytes, sent-length, sent-meets}
 use Rattle.agreement.proofs.BitFlip.{bit-flip-returns}

@@ -11,17 +11,17 @@ use Rattle.maths.specs.Bytes.{Bytes}
 use Rattle.maths.specs.Distance.{distance}
 use Rattle.maths.proofs.Slices.{replicate-at}
 use Rattle.codes.specs.Codes.{rows}
-use Rattle.matrices.specs.Frames.{frameOf, encodedBytes}
+use Rattle.codes.specs.Frames.{frameOf, encodedBytes}
 use Rattle.matrices.proofs.Edges.{meets-same}
 use Rattle.matrices.proofs.Encoded.{encoded-meets, encoded-bits}
-use Rattle.report.specs.Report.{ending}
+use Rattle.report.specs.Report.{ending, Told, told}
 use Rattle.min_sum.specs.Confidence.{i8}
 use Rattle.min_sum.specs.Soft.{below0}
 use Rattle.min_sum.proofs.Conversions.{llrs-hard}
 use Rattle.min_sum.proofs.Success.{steady}
 use Rattle.soft_flip.proofs.Frames.{llrs-one-size}
 use Rattle.agreement.specs.Parties.{Sent, by-copy-encode}
-use Rattle.agreement.specs.Demands.{Sending, Told, told, Decoder, Receiving, FrameReturns, CountsPasses, DecodesAs, FewFlipsReturn}
+use Rattle.agreement.specs.Demands.{Sending, Decoder, Receiving, FrameReturns, CountsPasses, DecodesAs, FewFlipsReturn}
 use Rattle.agreement.specs.Ours.{encoding, copyEncoding, bitFlip, bitFlipping, anyBits, minSum, minSumming, oneSized}
 use Rattle.agreement.specs.Examples.{zeros}
 use Rattle.agreement.specs.Idle.{NoIdleEncoder, rests, fails, decodesAlike, copies, worksOnce, renumbered, NoIdleDecoder, NoIdleCorrector}

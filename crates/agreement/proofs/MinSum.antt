@@ -15,7 +15,7 @@ use Rattle.codes.specs.Edges.{edges}
 use Rattle.codes.specs.Equations.{Meets}
 use Rattle.matrices.proofs.Sizes.{tc-bits}
 use Rattle.matrices.proofs.Edges.{meets-same}
-use Rattle.report.specs.Report.{ending}
+use Rattle.report.specs.Report.{ending, told}
 use Rattle.min_sum.specs.Confidence.{Confidence, Steady}
 use Rattle.min_sum.specs.MinSum.{Messages, at, hardBits, start, pass, met, turn, decoded}
 use Rattle.min_sum.specs.Hard.{toHard}
@@ -24,7 +24,7 @@ use Rattle.min_sum.specs.Working.{Lent}
 use Rattle.min_sum.proofs.Answers.{decode-lent, decode-refused}
 use Rattle.min_sum.proofs.Rows.{fine}
 use Rattle.min_sum.proofs.Success.{sized-state, accepted-is, says-true, at-once, given-bit}
-use Rattle.agreement.specs.Demands.{told, DecodesByTable, SuccessMeets, FrameReturns, CountsPasses, DecodesAs}
+use Rattle.agreement.specs.Demands.{DecodesByTable, SuccessMeets, FrameReturns, CountsPasses, DecodesAs}
 use Rattle.agreement.specs.Ours.{Soft, minSum, marginalsIn, minSumming}
 use Rattle.agreement.proofs.Sender.{sent-meets}
 use Rattle.agreement.proofs.Counting.{run-counted}

@@ -13,13 +13,14 @@ use Rattle.codes.specs.Tables.{prototypes, thetas, phis}
 use Rattle.codes.specs.Codes.{rows, tables}
 use Rattle.codes.specs.Blocks.{blockOf, cellBlocks, rowBlocks, lastRows}
 use Rattle.codes.specs.Edges.{edgeAt, blockEdges, blocksOf, edges}
+use Rattle.report.specs.Report.{Told}
 use Rattle.min_sum.specs.Soft.{clamp, satAdd, satSub, negated, size, below0, alike, lower}
 use Rattle.min_sum.specs.Confidence.{i8}
 use Rattle.min_sum.specs.MinSum.{Messages, hardBits, numbered, addMessage, takeMessage, restarted, renewed, start, pass, turn}
 use Rattle.min_sum.specs.Hard.{toHard, toLlrs}
 use Rattle.min_sum.proofs.Marginals.{taken-marginals, added-length, start-quiet, quiet-added}
 use Rattle.min_sum.proofs.Success.{steady}
-use Rattle.agreement.specs.Demands.{Told, DecodesAs}
+use Rattle.agreement.specs.Demands.{DecodesAs}
 use Rattle.agreement.specs.Ours.{minSumming}
 use Rattle.agreement.specs.Idle.{backwardsPass, addsBackwards}
 use Rattle.agreement.proofs.Passes.{

@@ -26,7 +26,7 @@ use Rattle.codes.specs.Equations.{par, wordOf, Hold, Meets, holds}
 use Rattle.codes.proofs.Flat.{edges-ranged}
 use Rattle.codes.proofs.Parity.{holds-hold}
 use Rattle.matrices.proofs.Edges.{par-below}
-use Rattle.report.specs.Report.{ending}
+use Rattle.report.specs.Report.{ending, Told, told}
 use Rattle.bit_flip.specs.Flip.{broken, score, topScore, flipped, pass, passes}
 use Rattle.bit_flip.specs.Erasures.{erasurePasses}
 use Rattle.bit_flip.specs.Outcome as flip
@@ -42,7 +42,6 @@ use Rattle.min_sum.proofs.Conversions.{llrs-length, llrs-bits}
 use Rattle.min_sum.proofs.Marginals.{pass-length, first-hard}
 use Rattle.min_sum.proofs.Packed.{hard-bit}
 use Rattle.min_sum.proofs.Success.{accepted-is, steady}
-use Rattle.agreement.specs.Demands.{Told, told}
 use Rattle.agreement.specs.Ours.{Hard, bitFlip, Soft, minSum, minSumming}
 use Rattle.agreement.specs.Examples.{zeros}
 

@@ -15,7 +15,7 @@ use Rattle.maths.proofs.Bytes.{bytes-take}
 use Rattle.codes.specs.Answers.{unlike}
 use Rattle.codes.specs.Codes.{codes, Known, known, TC, TM, rowOf}
 use Rattle.codes.specs.Equations.{Meets}
-use Rattle.matrices.specs.Frames.{frameOf, encodedBytes}
+use Rattle.codes.specs.Frames.{frameOf, encodedBytes}
 use Rattle.matrices.proofs.Sizes.{sizes}
 use Rattle.matrices.proofs.Encoded.{encoded-meets, encoded-length, encoded-bytes, encoded-bits}
 use Rattle.telemetry.specs.Completion.{completionBytes, Completes}

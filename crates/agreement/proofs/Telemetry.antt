@@ -9,7 +9,7 @@ use lib.ListN.{length, take}
 use Rattle.maths.specs.Bits.{bitAt}
 use Rattle.maths.specs.Distance.{distance}
 use Rattle.codes.specs.Codes.{TM, rows, rowOf}
-use Rattle.matrices.specs.Frames.{encodedBytes}
+use Rattle.codes.specs.Frames.{encodedBytes}
 use Rattle.report.specs.declared.Report.{Report}
 use Rattle.report.specs.Report.{ending}
 use Rattle.bit_flip.specs.Outcome as flip

@@ -8,11 +8,10 @@ use Rattle.maths.specs.Bits.{bitAt}
 use Rattle.maths.proofs.Slices.{replicate-at}
 use Rattle.maths.proofs.Sums.{sumL-zero, sumN-zero, sumN-ext}
 use Rattle.maths.proofs.Bytes.{pack-zero}
-use Rattle.codes.specs.Codes.{Known, rowOf}
+use Rattle.codes.specs.Codes.{Known, rowOf, circulantOf}
 use Rattle.codes.specs.Edges.{edges}
 use Rattle.codes.specs.Equations.{bitsOf, Meets}
-use Rattle.matrices.specs.Circulants.{circulantOf}
-use Rattle.matrices.specs.Frames.{adds, generator, parityOf, encodedBytes}
+use Rattle.codes.specs.Frames.{adds, generator, parityOf, encodedBytes}
 use Rattle.matrices.proofs.Sizes.{parityBytes, sizes}
 use Rattle.agreement.specs.Examples.{zeros}
 

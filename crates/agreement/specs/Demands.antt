@@ -7,9 +7,9 @@ use Rattle.maths.specs.Bits.{bitAt}
 use Rattle.maths.specs.Distance.{distance}
 use Rattle.codes.specs.Codes.{TC, TM, rowOf}
 use Rattle.codes.specs.Equations.{Meets}
-use Rattle.matrices.specs.Frames.{frameOf}
+use Rattle.codes.specs.Frames.{frameOf}
 use Rattle.report.specs.declared.Report.{Report}
-use Rattle.report.specs.Report.{ending}
+use Rattle.report.specs.Report.{ending, Told, told}
 use Rattle.encoder.specs.Outcomes.{Encoded}
 use Rattle.telemetry.specs.Completion.{Completes}
 use Rattle.agreement.specs.Parties.{Sent}
@@ -39,13 +39,6 @@ module _ {B : Type 0} (calls : Sending B) (e : Encoder B) where
   FrameMeets = (code : ℕ) (b : B) → TC code → calls .answer code b ≡ 0 → Meets code (bitAt (e code b .codeword))
 
 -- ---- a decoder: by code, the buffers that it is lent and the limit, its report and the output
-pub record Told : Type 0 where
-  pub report : Report
-  pub output : List ℕ
-
-abbrev pub told : Report → List ℕ → Told
-told r o = record { report = r; output = o }
-
 abbrev pub Decoder : Type 0 → Type 0
 Decoder B = ℕ → B → ℕ → Told
 

@@ -10,7 +10,7 @@ use Rattle.codes.specs.Answers.{firstOf}
 use Rattle.codes.specs.Codes.{Known, rowOf, paramsOf, generatorOf}
 use Rattle.codes.specs.Edges.{identityColumn}
 use Rattle.codes.specs.Walk.{remaining, begunOf}
-use Rattle.matrices.specs.Frames.{encodedBytes}
+use Rattle.codes.specs.Frames.{encodedBytes}
 use Rattle.report.specs.Report.{ending}
 use Rattle.encoder.specs.Outcomes.{encodeTests, copyTests}
 use Rattle.encoder.specs.Rotation.{rotated}

@@ -10,13 +10,13 @@ use Rattle.maths.specs.Distance.{distance}
 use Rattle.codes.specs.Codes.{TC, TM, rowOf, checksIn}
 use Rattle.codes.specs.Edges.{Edge, edges}
 use Rattle.report.specs.declared.Report.{Report}
-use Rattle.report.specs.Report.{refusal, ending}
+use Rattle.report.specs.Report.{refusal, ending, Told, told}
 use Rattle.encoder.specs.Outcomes.{Encoded, encoded}
 use Rattle.min_sum.specs.Confidence.{Confidence}
 use Rattle.min_sum.specs.MinSum.{Messages, numbered, addMessage, takeMessage, restarted, renewed, start, met}
 use Rattle.min_sum.specs.Hard.{toHard}
 use Rattle.agreement.specs.Parties.{Sent}
-use Rattle.agreement.specs.Demands.{Encoder, Sending, EncodesByTable, EncodesData, FrameMeets, Told, told, Decoder, Receiving, DecodesByTable, SuccessMeets, FrameReturns, FrameCompletes, CountsPasses, DecodesAs, FewFlipsReturn}
+use Rattle.agreement.specs.Demands.{Encoder, Sending, EncodesByTable, EncodesData, FrameMeets, Decoder, Receiving, DecodesByTable, SuccessMeets, FrameReturns, FrameCompletes, CountsPasses, DecodesAs, FewFlipsReturn}
 use Rattle.agreement.specs.Ours.{Soft}
 
 -- what a decoder says, by code, the buffers that it is lent and the limit

@@ -10,7 +10,7 @@ use Rattle.codes.specs.Answers.{firstOf}
 use Rattle.codes.specs.Codes.{rowOf, checksIn}
 use Rattle.codes.specs.Edges.{edges}
 use Rattle.codes.specs.Equations.{wordOf}
-use Rattle.report.specs.Report.{ending}
+use Rattle.report.specs.Report.{ending, told}
 use Rattle.encoder.specs.Outcomes.{encodeTests, copyTests, encodeOutcome, copyEncodeOutcome}
 use Rattle.bit_flip.specs.Flip.{flipped}
 use Rattle.bit_flip.specs.Erasures.{erasurePasses}
@@ -21,7 +21,7 @@ use Rattle.min_sum.specs.MinSum as soft
 use Rattle.min_sum.specs.Hard.{toHard}
 use Rattle.min_sum.specs.Outcomes.{decodeAnswer, decodeOutcome}
 use Rattle.soft_flip.specs.OneSize.{OneSize}
-use Rattle.agreement.specs.Demands.{Encoder, Sending, told, Decoder, Receiving}
+use Rattle.agreement.specs.Demands.{Encoder, Sending, Decoder, Receiving}
 
 -- ---- `encode` is lent the codeword, whose first k/8 bytes are the message
 abbrev pub encoder : Encoder (List ℕ)

@@ -1,18 +1,18 @@
 -- What the main passes leave in their bytes is what the definition says. Assumes nothing.
 use mathlib.Core.Bool.{Bool, true, false}
 use mathlib.Core.List.{List, [], _∷_, map}
-use mathlib.Core.Path.{_≡_, refl, sym, ap, ap₂, _∙_}
+use mathlib.Core.Path.{_≡_, refl, sym, ap₂, _∙_}
 use Prim.Native.Nat.{ℕ, zero, suc, _+_, _-_, _*_, _/_, _%_, _≤_, _<_, max}
 use native.Mathlib.Decide.{decLt}
 use native.Mathlib.Omega.{arith}
 use lib.Dec.{T, eqb, ltb, ltb→lt}
-use lib.ListN.{length, getD, List·getD-eq-default}
-use Rattle.maths.specs.Tests.{pick, both, all}
+use lib.ListN.{length, List·getD-eq-default}
+use Rattle.maths.specs.Tests.{pick, all}
 use Rattle.maths.specs.Lists.{span, fold, largestOf}
 use Rattle.maths.specs.Sums.{sumL}
 use Rattle.maths.specs.Budget.{stop, go}
 use Rattle.maths.proofs.Tests.{both-left, both-right, pick-both}
-use Rattle.maths.proofs.Lists.{span-length, span-ext}
+use Rattle.maths.proofs.Lists.{span-length, span-ext, map-span}
 use Rattle.maths.proofs.Slices.{span-get, span-is}
 use Rattle.codes.specs.Edges.{Edge, inRange}
 use Rattle.codes.specs.Runs.{laid}
@@ -31,7 +31,7 @@ into-twice g (v ∷ vs) x k = into-twice g vs ((x + 2 * g v) % 256) (omega arith
 pub gave : (s : ℕ → ℕ) (es : List Edge) (w : List ℕ) → ((v : ℕ) → wordOf w v < 256)
     → fold (give s) es w ≡ span (λ v. (wordOf w v + 2 * sumL (checksOf es v) s) % 256) 0 (length w)
 gave s es w low =
-    span-is _ _ (length w) (put-length bitOf checkOf twice s es w)
+    span-is 0 _ _ (length w) (put-length bitOf checkOf twice s es w)
     (λ v k. put-at bitOf checkOf twice s es w v k ∙ into-twice s (checksOf es v) (wordOf w v) (low v))
 
 -- the sum over the checks of a bit, where only checks in range have edges
@@ -61,11 +61,6 @@ unfolding syndromeOf broken
 syndrome-at es m w a h = span-get (λ a. par es (wordOf w) a % 2) 0 m a h
 
 -- ---- lists by place
-pub map-span : (g f : ℕ → ℕ) (s n : ℕ) → map g (span f s n) ≡ span (λ i. g (f i)) s n
-unfolding span
-map-span g f s zero = refl
-map-span g f s (suc n) = ap {B = List ℕ} (λ l. g (f s) ∷ l) (map-span g f (suc s) n)
-
 largest-half : (b t : ℕ → ℕ) → ((v : ℕ) → b v < 2) → (s n : ℕ) → largestOf (span (λ v. b v + 2 * t v) s n) / 2 ≡ largestOf (span t s n)
 unfolding span largestOf
 largest-half b t h s zero = refl
@@ -99,7 +94,7 @@ module _ (es : List Edge) (m n : ℕ) (w : List ℕ) (ranged : T (all (inRange m
   flipped-by {s} {w₁} {w₂} {t} es-is e₁ et e₂ =
       let b : w₁ ≡ span (λ v. wordOf w v + 2 * score es w v) 0 (length w) = e₁ ∙ scored es-is in
       let d : t / 2 ≡ topScore es w = rw (et, b) (largest-half (wordOf w) (score es w) bits 0 (length w)) in
-      e₂ ∙ rw (b, d) (map-span (flipByte (topScore es w)) _ 0 (length w)
+      e₂ ∙ rw (b, d) (map-span _ (flipByte (topScore es w)) 0 (length w)
       ∙ span-ext _ _ 0 0 (length w) (λ v k. flip-one (topScore es w) (wordOf w (0 + v)) (score es w (0 + v)) (bits (0 + v))))
 
 -- a span of bits

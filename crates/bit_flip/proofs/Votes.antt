@@ -12,7 +12,7 @@ use Rattle.maths.specs.Tests.{pick, both, all}
 use Rattle.maths.specs.Lists.{span, fold, overwrite}
 use Rattle.maths.specs.Sums.{sumL}
 use Rattle.maths.proofs.Tests.{pick-both, both-true, both-false}
-use Rattle.maths.proofs.Lists.{span-length, span-ext}
+use Rattle.maths.proofs.Lists.{span-length, span-ext, map-span}
 use Rattle.maths.proofs.Slices.{span-get, span-is, overwrite-same, overwrite-more, overwrite-all}
 use Rattle.codes.specs.Edges.{Edge, inRange}
 use Rattle.codes.specs.Runs.{laid}
@@ -21,7 +21,7 @@ use Rattle.codes.proofs.Tally.{into, put-length, put-at}
 use Rattle.codes.proofs.Parity.{laid-ranged}
 use Rattle.bit_flip.specs.Erasures.{holes, others, ayes, nays, voted, filled, erasurePasses, fromOn}
 use Rattle.bit_flip.specs.Steps.{hole, dig, give, voteByte, settleByte, setFrom, Light, Bits, Marked}
-use Rattle.bit_flip.proofs.Scores.{gave, sum-ranged, map-span}
+use Rattle.bit_flip.proofs.Scores.{gave, sum-ranged}
 
 -- ---- the byte of a check: the parity of its known bits, and twice its erased bits, at most 4
 into-hole : (g : ℕ → ℕ) → ((v : ℕ) → g v < 4) → (vs : List ℕ) (x : ℕ) → x ≤ 4 → into hole g vs x ≡ min 4 (x + 2 * sumL vs (λ v. g v / 2))
@@ -119,7 +119,7 @@ module _ (erased : ℕ → Bool) (es : List Edge) (m n : ℕ) (w b : List ℕ) (
   dug : {s₁ s₂ : List ℕ} → s₁ ≡ syndromeOf es m (wordOf b) → s₂ ≡ fold (dig (wordOf b)) es s₁ → s₂ ≡ span tally 0 m
   unfolding syndromeOf others holes
   dug {s₁} {s₂} e₁ e₂ =
-      e₂ ∙ rw e₁ (span-is _ tally m (put-length checkOf bitOf hole (wordOf b) es s ∙ long)
+      e₂ ∙ rw e₁ (span-is 0 _ tally m (put-length checkOf bitOf hole (wordOf b) es s ∙ long)
       (λ a k.
       let l : a < length s = rw long k in
       let o : wordOf s a ≡ others erased es w a = span-get (λ a. par es (wordOf b) a % 2) 0 m a k ∙ sum-parity (wordOf b) _ parity-same (bitsOf es a) in
@@ -149,7 +149,7 @@ module _ (erased : ℕ → Bool) (es : List Edge) (m n : ℕ) (w b : List ℕ) (
 
   cast : {s₃ : List ℕ} → s₃ ≡ map voteByte (span tally 0 m) → (a : ℕ) → a < m → wordOf s₃ a ≡ 2 * aye a + 254 * nay a
   cast e a k =
-      rw (e, map-span voteByte tally 0 m) (span-get (λ a. voteByte (tally a)) 0 m a k ∙ vote-one (holes erased es a) (others erased es w a) (others-low a))
+      rw (e, map-span tally voteByte 0 m) (span-get (λ a. voteByte (tally a)) 0 m a k ∙ vote-one (holes erased es a) (others erased es w a) (others-low a))
 
   -- the votes that a bit has
   votes : {s₃ : List ℕ} → s₃ ≡ map voteByte (span tally 0 m) → (v : ℕ) → sumL (checksOf es v) (wordOf s₃) ≡ 2 * ayes erased es w v + 254 * nays erased es w v
@@ -164,7 +164,7 @@ module _ (erased : ℕ → Bool) (es : List Edge) (m n : ℕ) (w b : List ℕ) (
   unfolding voted
   settled s e =
       ap (map settleByte) (gave (wordOf s) es b (λ v. omega (arith, marked-low v)))
-      ∙ map-span settleByte _ 0 (length b)
+      ∙ map-span _ settleByte 0 (length b)
       ∙ rw (mark .long) (span-ext _ _ 0 0 (length w) (λ v k. rw (votes e (0 + v), mark .byte (0 + v)) (settle-one (erased (0 + v)) _ _ _ (mark .bits (0 + v)) (few-votes (0 + v)))))
 
   pub voted-by : {s₁ s₂ s₃ b₁ b₂ : List ℕ} → s₁ ≡ syndromeOf es m (wordOf b) → s₂ ≡ fold (dig (wordOf b)) es s₁ → s₃ ≡ map voteByte s₂
@@ -191,7 +191,7 @@ module _ (n x : ℕ) (w : List ℕ) where
 
   -- a loop that sets them
   pub from-first : n ≤ length w → w ≡ overwrite (λ v. pick (leb n v) x (wordOf w v)) n w
-  from-first h = overwrite-same (λ v. pick (leb n v) x (wordOf w v)) w n h (λ v k. rw (lt-leb n v k))
+  from-first h = overwrite-same (λ v. pick (leb n v) x (wordOf w v)) w 0 n h (λ v k. rw (lt-leb n v k))
 
   pub from-more : (i : ℕ) {l : List ℕ} → n ≤ i → i < length w → l ≡ overwrite (λ v. pick (leb n v) x (wordOf w v)) i w
       → set l i x ≡ overwrite (λ v. pick (leb n v) x (wordOf w v)) (i + 1) w

@@ -42,7 +42,7 @@ received-by s d n e h {b} eb el eb′ =
     eb′ ∙ rw el (span-ext _ _ 0 0 (length d) (λ v k. go (0 + v) (decLt (0 + v) n)))
   where
     go : (v : ℕ) → Dec (v < n) → pick (leb n v) 0 (wordOf b v) ≡ bitAt s v
-    go v (yes l) = rw (lt-leb n v l, eb) (overwrite-at (bitAt s) d (8 * wholeBytes (length s) (length d)) v (omega arith))
+    go v (yes l) = rw (lt-leb n v l, eb) (overwrite-at (bitAt s) d 0 (8 * wholeBytes (length s) (length d)) v (omega arith))
     go v (no l) = rw (le-leb n v (omega arith)) (sym (bitAt-past s v (omega arith)))
 
 pub received-bits : (s : List ℕ) (t : ℕ) {b : List ℕ} → b ≡ span (bitAt s) 0 t → Bits b

@@ -47,7 +47,7 @@ unpacked-word s d e = fun-ext (λ v. go v (decLt v (length d)))
     all = omega arith
 
     go : (v : ℕ) → Dec (v < length d) → getD (unpacked s d) v 0 ≡ bitAt s v
-    go v (yes h) = overwrite-at (bitAt s) d (8 * wholeBytes (length s) (length d)) v (omega (arith, all))
+    go v (yes h) = overwrite-at (bitAt s) d 0 (8 * wholeBytes (length s) (length d)) v (omega (arith, all))
     go v (no h) =
         let n : length (unpacked s d) ≤ v = omega (arith, overwrite-length (bitAt s) d (8 * wholeBytes (length s) (length d)) (omega (arith, all))) in
         List·getD-eq-default (unpacked s d) 0 n ∙ sym (bitAt-past s v (omega arith))

@@ -1,21 +1,23 @@
 -- What the rows and tables of the codes have in common: each is one test over all codes. Assumes nothing.
 use mathlib.Core.Bool.{Bool, true, false}
 use mathlib.Core.List.{[]}
-use mathlib.Core.Path.{_≡_, refl, sym, subst}
+use mathlib.Core.Path.{_≡_, refl, sym, _∙_, subst}
 use Prim.Native.Nat.{ℕ, _+_, _-_, _*_, _/_, _%_, _<_}
 use native.Mathlib.Omega.{arith}
 use lib.Dec.{T, ltb, leb, eqb, ltb→lt, leb→le, eqb→eq}
-use lib.ListN.{getD}
+use lib.ListN.{length, getD}
 use borrow.Author.Tests.{ltb-false}
 use Rattle.maths.specs.Tests.{pick, both, all, below}
 use Rattle.maths.proofs.Tests.{both-left, both-right, all-at, all-anywhere, below-at, below-eq}
+use Rattle.maths.proofs.Lists.{span-length, flatMap-length}
 use Rattle.codes.specs.declared.CodeParams.{CodeParams}
 use Rattle.codes.specs.declared.MatrixTables.{MatrixTables}
 use Rattle.codes.specs.declared.«parity_iter».Block.{Block}
 use Rattle.codes.specs.declared.«parity_iter».Block.the-variants.{Ends, Empty, Identity, Permutation}
 use Rattle.codes.specs.Tables.{prototypes}
-use Rattle.codes.specs.Codes.{codes, Known, tcCodes, TC, TM, rows, row, rowOf, bitsIn, checksIn, tables, tablesOf, prototypeOf}
-use Rattle.codes.specs.Blocks.{byteAt, blockOf}
+use Rattle.codes.specs.Codes.{codes, Known, tcCodes, TC, TM, rows, row, rowOf, bitsIn, checksIn, tables, tablesOf, matrixOf, prototypeOf}
+use Rattle.codes.specs.Blocks.{byteAt, blockOf, cellBlocks, rowBlocks, lastRows}
+use Rattle.codes.specs.Edges.{edgeAt, blockEdges, blocksOf, edges}
 use Rattle.codes.specs.Sound.{Sized, Small, Roomy}
 
 size-test : CodeParams → Bool
@@ -125,3 +127,15 @@ byte-small b h =
 -- the block b is one of the code's
 pub block-small : (code l r c : ℕ) (b : Block) → b ≡ blockOf (byteAt (prototypeOf code) l r c) → Small b
 block-small code l r c b e = subst Small (sym e) (byte-small (byteAt (prototypeOf code) l r c) (byte-low code l r c))
+
+block-count : (code : ℕ) → Known code → length (blocksOf code) * matrixOf code .size ≡ rowOf code .«paritycheck_sum»
+unfolding rows tables prototypes blocksOf lastRows rowBlocks cellBlocks blockOf
+block-count code h = below-eq codes (λ c. length (blocksOf c) * matrixOf c .size) (λ c. rowOf c .«paritycheck_sum») tt code h
+
+-- "E edges in all"
+pub edge-count : (code : ℕ) → Known code → length (edges code) ≡ rowOf code .«paritycheck_sum»
+unfolding edges blockEdges
+edge-count code h =
+    flatMap-length (blockEdges (matrixOf code)) (matrixOf code .size) (blocksOf code)
+    (λ p. span-length (edgeAt (matrixOf code) p) 0 (matrixOf code .size))
+    ∙ block-count code h

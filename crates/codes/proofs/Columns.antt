@@ -8,7 +8,7 @@ use lib.ListN.{getD}
 use Rattle.codes.specs.declared.«parity_iter».Block.{Block}
 use Rattle.codes.specs.declared.«parity_iter».Block.the-variants.{Ends, Empty, Identity, Permutation}
 use Rattle.codes.specs.Codes.{Matrix}
-use Rattle.codes.specs.Edges.{identityColumn, permutationColumn, columnOf}
+use Rattle.codes.specs.Edges.{columnOf}
 
 module _ (m i : ℕ) (four : m % 4 ≡ 0) (below : i < m) where
   pub quarter-pos : zero < m / 4

@@ -1,19 +1,17 @@
 -- The runs of a code fit the list that holds them. Assumes nothing.
 use mathlib.Core.Bool.{Bool}
-use mathlib.Core.Path.{_≡_, refl, sym, _∙_}
-use mathlib.Core.List.{List, [], _∷_, _++_, flatMap}
-use Prim.Native.Nat.{ℕ, _+_, _-_, _*_, _≤_, _<_}
+use mathlib.Core.Path.{_≡_, refl, _∙_}
+use mathlib.Core.List.{List, [], _++_, flatMap}
+use Prim.Native.Nat.{ℕ, _+_, _-_, _*_, _≤_}
 use native.Mathlib.Omega.{arith}
 use lib.Dec.{T, leb, leb→le}
 use lib.ListN.{length, replicate}
 use borrow.Author.Tests.{lt-ltb, le-ltb}
 use Rattle.maths.specs.Tests.{below}
-use Rattle.maths.specs.Lists.{span}
 use Rattle.maths.proofs.Tests.{below-at}
 use Rattle.maths.proofs.Stores.{sets-replicate}
-use Rattle.codes.specs.declared.runs.Runs.{Runs}
 use Rattle.codes.specs.Tables.{prototypes, thetas, phis}
-use Rattle.codes.specs.Codes.{codes, Known, rows, tables, Matrix, matrixOf, prototypeOf}
+use Rattle.codes.specs.Codes.{codes, Known, rows, tables, matrixOf, prototypeOf}
 use Rattle.codes.specs.Blocks.{blockOf, cellBlocks, rowBlocks, lastRows, blocks}
 use Rattle.codes.specs.Edges.{blocksOf}
 use Rattle.codes.specs.Runs.{Run, turned, quarters, blockRuns, runs, numbers, room, runsOf, Stored}

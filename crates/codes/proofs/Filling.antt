@@ -1,7 +1,7 @@
 -- Filling the list of runs, block by block in the order of the walk. Assumes nothing.
-use mathlib.Core.Path.{_≡_, refl, sym, ap, subst, _∙_}
-use mathlib.Core.List.{List, [], _∷_, _++_, flatMap, append-nil, append-assoc}
-use Prim.Native.Nat.{ℕ, suc, _+_, _*_, _≤_, _<_}
+use mathlib.Core.Path.{_≡_, refl, ap, subst, _∙_}
+use mathlib.Core.List.{List, [], _++_, flatMap, append-nil, append-assoc}
+use Prim.Native.Nat.{ℕ, _+_, _*_, _≤_, _<_}
 use native.Mathlib.Nat.{le-refl}
 use native.Mathlib.Omega.{arith}
 use lib.ListN.{length, length-append}
@@ -11,7 +11,7 @@ use Rattle.codes.specs.declared.«parity_iter».Found.{Found}
 use Rattle.codes.specs.declared.«parity_iter».Found.the-variants.{At, Nothing}
 use Rattle.codes.specs.Codes.{Matrix}
 use Rattle.codes.specs.Blocks.{blocks, cellsFrom, lastRows, blocksFrom, headOf, restOf}
-use Rattle.codes.specs.Runs.{Run, blockRuns, room, Stored}
+use Rattle.codes.specs.Runs.{Run, blockRuns, Stored}
 use Rattle.codes.specs.Sound.{Fits, Fills}
 use Rattle.codes.proofs.Walk.{product-low}
 use Rattle.codes.proofs.Remaining.{Lies, Headed, none, some, headed-all, headed-from}

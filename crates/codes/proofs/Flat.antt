@@ -1,18 +1,18 @@
 -- The runs of a code, laid out edge by edge, are its edges, and they lie within its checks and bits. Assumes nothing.
 --     runs-flat     flatMap runEdges (runs code) ≡ edges code
-use mathlib.Core.Bool.{Bool, true, false}
-use mathlib.Core.Path.{_≡_, refl, sym, ap, ap₂, subst, _∙_}
+use mathlib.Core.Bool.{Bool}
+use mathlib.Core.Path.{_≡_, sym, ap, ap₂, subst, _∙_}
 use mathlib.Core.List.{List, [], _∷_, _++_, flatMap, append-nil}
 use Prim.Native.Nat.{ℕ, zero, suc, _+_, _-_, _*_, _/_, _%_, _≤_, _<_}
 use native.Mathlib.Nat.{add-zero, zero-add, add-comm, mod-lt, mod-eq-of-lt, mod-add-mod, mul-add-div-right, div-eq-of-lt, add-mul-mod-self-right, add-mod-left, suc-mul, mul-comm}
 use native.Mathlib.Decide.{ℕ-discrete, decLt}
 use native.Mathlib.Omega.{arith}
 use lib.Dec.{T, ltb, leb, leb→le, lt→ltb}
-use lib.ListN.{length, getD}
+use lib.ListN.{getD}
 use borrow.Author.Tests.{le-ltb, eq-eqb, ne-eqb}
-use Rattle.maths.specs.Tests.{both, all, below}
+use Rattle.maths.specs.Tests.{all, below}
 use Rattle.maths.specs.Lists.{span}
-use Rattle.maths.proofs.Tests.{both-left, both-right, both-make, below-at, all-left, all-right, all-span, all-flatMap}
+use Rattle.maths.proofs.Tests.{both-left, both-right, both-make, below-at, all-span, all-flatMap}
 use Rattle.maths.proofs.Lists.{span-split, span-ext, flatMap-ext, flatMap-cons, flatMap-append, flatMap-flatMap}
 use Rattle.codes.specs.declared.«parity_iter».Place.{Place}
 use Rattle.codes.specs.declared.«parity_iter».Block.{Block}
@@ -143,21 +143,13 @@ runs-flat code = go (decLt code codes)
     go (yes h) = flat-known code h
     go (no h) = flat-unknown code (omega arith)
 
--- every run lies within the checks and bits of its code, and has an edge
-within-test : ℕ → Run → Bool
-within-test code r = both (within (checksIn code) (bitsIn code) r) (ltb 0 (r .size))
-
-all-within : T (below codes (λ code. all (within-test code) (runs code)))
-unfolding within-test rows tables prototypes thetas phis blockOf cellBlocks rowBlocks lastRows flatMap blocksOf runs blockRuns turned quarters
+-- every run lies within the checks and bits of its code
+all-within : T (below codes (λ code. all (within (checksIn code) (bitsIn code)) (runs code)))
+unfolding rows tables prototypes thetas phis blockOf cellBlocks rowBlocks lastRows flatMap blocksOf runs blockRuns turned quarters
 all-within = tt
 
 pub runs-within : (code : ℕ) → Known code → T (all (within (checksIn code) (bitsIn code)) (runs code))
-unfolding within-test
-runs-within code h = all-left (within (checksIn code) (bitsIn code)) (λ r. ltb 0 (r .size)) (runs code) (below-at codes (λ k. all (within-test k) (runs k)) all-within code h)
-
-pub runs-solid : (code : ℕ) → Known code → T (all (λ r. ltb 0 (r .size)) (runs code))
-unfolding within-test
-runs-solid code h = all-right (within (checksIn code) (bitsIn code)) (λ r. ltb 0 (r .size)) (runs code) (below-at codes (λ k. all (within-test k) (runs k)) all-within code h)
+runs-within = below-at codes (λ code. all (within (checksIn code) (bitsIn code)) (runs code)) all-within
 
 -- the edges of a run that lies within are in range
 pub run-ranged : (m n : ℕ) (r : Run) → T (within m n r) → T (all (inRange m n) (runEdges r))

@@ -1,7 +1,7 @@
 -- No bit of a code has many edges: a block has at most four of one bit, and six blocks stand in one column. Assumes nothing.
 use mathlib.Core.Bool.{Bool, true, false}
 use mathlib.Core.List.{List, [], _∷_, _++_, flatMap}
-use mathlib.Core.Path.{_≡_, refl, sym, ap, subst, _∙_}
+use mathlib.Core.Path.{_≡_, refl, ap, subst, _∙_}
 use Prim.Native.Nat.{ℕ, zero, suc, _+_, _-_, _*_, _/_, _%_, _≤_, _<_}
 use native.Mathlib.Nat.{mod-lt, div-add-mod', mul-le-mul-right, suc-mul}
 use native.Mathlib.Decide.{ℕ-discrete, decLt}
@@ -17,7 +17,7 @@ use Rattle.codes.specs.declared.«parity_iter».Place.{Place}
 use Rattle.codes.specs.declared.«parity_iter».Block.{Block}
 use Rattle.codes.specs.declared.«parity_iter».Block.the-variants.{Ends, Empty, Identity, Permutation}
 use Rattle.codes.specs.Tables.{prototypes}
-use Rattle.codes.specs.Codes.{codes, Known, rows, tables, Matrix, matrixOf}
+use Rattle.codes.specs.Codes.{codes, Known, tables, Matrix, matrixOf}
 use Rattle.codes.specs.Blocks.{blockOf, blockAt, cellBlocks, rowBlocks, lastRows}
 use Rattle.codes.specs.Edges.{Edge, edge, blocksOf, edges}
 use Rattle.codes.specs.Runs.{Run, run, runEdges, turned, quarters, runsAt, blockRuns, runs}

@@ -1,14 +1,14 @@
 -- Whether a word meets the equations of a code, as the functions ask it and as the theorems say it. Assumes nothing.
-use mathlib.Core.Bool.{Bool, true, false, not}
-use mathlib.Core.List.{List, [], _∷_, _++_, flatMap}
-use mathlib.Core.Path.{_≡_, refl, sym, ap, _∙_}
-use Prim.Native.Nat.{ℕ, _+_, _-_, _*_, _/_, _%_, _≤_, _<_}
+use mathlib.Core.Bool.{Bool, true, false}
+use mathlib.Core.List.{List, [], _∷_}
+use mathlib.Core.Path.{_≡_, refl, ap, _∙_}
+use Prim.Native.Nat.{ℕ, _+_, _-_, _*_, _%_, _≤_}
 use native.Mathlib.Omega.{arith}
 use borrow.Author.Tests.{eqb-true, eq-eqb, ne-eqb, ltb-true, lt-ltb}
 use lib.Dec.{T, eqb}
-use lib.ListN.{length, getD, take, replicate, length-append, length-replicate}
-use lib.Seq.{take-at, length-take-le}
-use Rattle.maths.specs.Tests.{pick, both, all, below}
+use lib.ListN.{length, take, replicate, length-append}
+use lib.Seq.{take-at}
+use Rattle.maths.specs.Tests.{all}
 use Rattle.maths.specs.Bits.{bitAt}
 use Rattle.maths.specs.Lists.{keep, largestOf}
 use Rattle.maths.proofs.Tests.{both-first, both-second, below-true, below-all, all-flatMap}
@@ -18,7 +18,6 @@ use Rattle.bits.specs.Packed.{unpacked}
 use Rattle.bits.proofs.Packed.{unpacked-word}
 use Rattle.codes.specs.declared.runs.Runs.{Runs}
 use Rattle.codes.specs.declared.ParamsAnswer.{ParamsAnswer}
-use Rattle.codes.specs.declared.meets.Met.{Met}
 use Rattle.codes.specs.Codes.{codes, Known, known, rowOf, paramsOf, bitsIn, checksIn}
 use Rattle.codes.specs.Edges.{Edge, inRange, edges}
 use Rattle.codes.specs.Runs.{Run, runEdges, runs, numbers, room, runsOf, readRuns, within, laid}
@@ -74,9 +73,6 @@ pub met-by : (ns word bits : List ℕ) (m : ℕ) {bits′ checks : List ℕ} {r 
     → checks ≡ syndromeOf (laid m (length bits′) ns) m (wordOf bits′) → r ≡ largestOf checks
     → eqb r 0 ≡ holds (laid m (length bits) ns) m (wordOf (unpacked word bits))
 met-by ns word bits m {bits′} eb el ec er = rw (er, ec, ← eb, ← el) (none-broken (laid m (length bits′) ns) m (wordOf bits′))
-
-pub part-long : (k n : ℕ) → n ≤ k → length (take n (replicate {A = ℕ} k 0)) ≡ n
-part-long k n h = length-take-le {A = ℕ} n (replicate k 0) (rw (length-replicate {A = ℕ} k 0) h)
 
 module _ {code n m : ℕ} (word : List ℕ) (s : Sizes code n m (length word)) where
   pub bits-few : n ≤ 5632

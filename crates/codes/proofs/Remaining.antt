@@ -10,14 +10,13 @@ use native.Mathlib.Numerals.{add-one}
 use native.Mathlib.Omega.{arith}
 use lib.Dec.{T, ltb, ltb→lt}
 use borrow.Author.Tests.{lt-ltb, ltb-true, ltb-false}
-use Rattle.maths.specs.Tests.{pick, both}
+use Rattle.maths.specs.Tests.{pick}
 use Rattle.maths.specs.Lists.{span}
 use Rattle.maths.proofs.Tests.{both-left, both-right}
 use Rattle.maths.proofs.Lists.{span-first, span-none}
 use Rattle.codes.specs.declared.«parity_iter».Place.{Place}
 use Rattle.codes.specs.declared.«parity_iter».ParityIter.{ParityIter}
-use Rattle.codes.specs.declared.«parity_iter».Found.{Found}
-use Rattle.codes.specs.declared.«parity_iter».Found.the-variants.{At, Nothing}
+use Rattle.codes.specs.declared.«parity_iter».Found.the-variants.{At}
 use Rattle.codes.specs.declared.«parity_iter».Block.{Block}
 use Rattle.codes.specs.declared.«parity_iter».Block.the-variants.{Ends, Empty, Identity, Permutation}
 use Rattle.codes.specs.declared.«parity_iter».Step.{Step}

@@ -1,21 +1,17 @@
 -- A fold that puts each edge's far end into a list at its near end: what stands there in the end is all of them put in, in order. Assumes nothing.
-use mathlib.Core.Bool.{Bool, true, false}
 use mathlib.Core.List.{List, [], _∷_}
-use mathlib.Core.Path.{_≡_, refl, sym, ap, ap₂, _∙_}
-use Prim.Native.Nat.{ℕ, zero, suc, _+_, _*_, _%_, _≤_, _<_}
+use mathlib.Core.Path.{_≡_, refl, sym, ap, _∙_}
+use Prim.Native.Nat.{ℕ, _+_, _%_, _<_}
 use native.Mathlib.Decide.{ℕ-discrete}
 use native.Mathlib.Omega.{arith}
 use borrow.Author.Tests.{eq-eqb, ne-eqb}
-use lib.Dec.{T, eqb, ltb, ltb→lt}
 use lib.ListN.{length, getD, set, replicate, length-set, length-replicate, getD-replicate}
 use lib.Seq.{getD-set-same, getD-set-other, lt-length-set}
-use Rattle.maths.specs.Tests.{pick, both, all}
-use Rattle.maths.specs.Lists.{span, fold}
+use Rattle.maths.specs.Lists.{fold}
 use Rattle.maths.specs.Sums.{sumL}
-use Rattle.maths.proofs.Tests.{both-left, both-right}
 use Rattle.maths.proofs.Slices.{span-is}
-use Rattle.codes.specs.Edges.{Edge, inRange}
-use Rattle.codes.specs.Equations.{ends, checkOf, bitOf, bitsOf, checksOf, par, syndromeOf}
+use Rattle.codes.specs.Edges.{Edge}
+use Rattle.codes.specs.Equations.{ends, checkOf, bitOf, bitsOf, par, syndromeOf}
 use Rattle.codes.specs.Runs.{readRuns, laid}
 use Rattle.codes.specs.Steps.{put, overRun, add2, addBit}
 use Rattle.codes.proofs.Sweep.{over-laid}
@@ -56,7 +52,7 @@ into-add2 w (v ∷ vs) x k = into-add2 w vs ((x + w v) % 2) (omega arith) ∙ om
 pub added : (es : List Edge) (m : ℕ) (w : ℕ → ℕ) → fold (addBit w) es (replicate m 0) ≡ syndromeOf es m w
 unfolding syndromeOf
 added es m w =
-    span-is _ (λ a. par es w a % 2) m (put-length checkOf bitOf add2 w es (replicate m 0) ∙ length-replicate {A = ℕ} m 0)
+    span-is 0 _ (λ a. par es w a % 2) m (put-length checkOf bitOf add2 w es (replicate m 0) ∙ length-replicate {A = ℕ} m 0)
     (λ a k.
     let z : getD (replicate m 0) a 0 ≡ 0 = getD-replicate {A = ℕ} m a 0 0 k in
     let l : a < length (replicate {A = ℕ} m 0) = rw (length-replicate {A = ℕ} m 0) k in

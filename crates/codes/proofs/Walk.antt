@@ -1,8 +1,7 @@
 -- A step of a walk whose numbers are within bounds. Assumes nothing.
-use mathlib.Core.Path.{_≡_, sym, _∙_}
+use mathlib.Core.Path.{_≡_}
 use Prim.Native.Nat.{ℕ, _*_, _≤_, _<_}
 use native.Mathlib.Nat.{mul-le-mul, le-of-lt}
-use lib.ListN.{getD}
 use borrow.Author.Tests.{lt-ltb}
 use Rattle.maths.specs.Tests.{pick}
 use Rattle.codes.specs.declared.«parity_iter».Block.{Block}

@@ -74,6 +74,10 @@ bitsIn code = rowOf code .n + rowOf code .«punctured_bits»
 abbrev pub checksIn : ℕ → ℕ
 checksIn code = bitsIn code - rowOf code .k
 
+-- the side of a circulant
+abbrev pub circulantOf : ℕ → ℕ
+circulantOf code = rowOf code .«circulant_size»
+
 -- which prototype and which table phi each code has
 unfoldable pub tables : List MatrixTables
 tables =

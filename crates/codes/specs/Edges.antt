@@ -1,6 +1,6 @@
 -- The edges of a code, in the order of the walk. Assumes nothing.
-use mathlib.Core.Bool.{Bool, true, false}
-use mathlib.Core.List.{List, [], _∷_, flatMap}
+use mathlib.Core.Bool.{Bool}
+use mathlib.Core.List.{List, [], flatMap}
 use Prim.Native.Nat.{ℕ, _+_, _*_, _/_, _%_}
 use lib.Dec.{ltb}
 use lib.ListN.{getD}
@@ -10,7 +10,7 @@ use Rattle.codes.specs.declared.«parity_iter».Place.{Place}
 use Rattle.codes.specs.declared.«parity_iter».Block.{Block}
 use Rattle.codes.specs.declared.«parity_iter».Block.the-variants.{Ends, Empty, Identity, Permutation}
 use Rattle.codes.specs.Codes.{known, Matrix, matrixOf}
-use Rattle.codes.specs.Blocks.{blockOf, blockAt, blocks}
+use Rattle.codes.specs.Blocks.{blockAt, blocks}
 
 -- an edge: the number of a check and the number of a bit
 pub record Edge : Type 0 where

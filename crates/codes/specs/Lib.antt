@@ -9,3 +9,4 @@ pub mod Runs
 pub mod Sound
 pub mod Equations
 pub mod Steps
+pub mod Frames

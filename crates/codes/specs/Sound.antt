@@ -1,10 +1,9 @@
 -- What the tables of the codes satisfy, as the functions over them ask it. Assumes nothing.
-use mathlib.Core.List.{List, flatMap}
+use mathlib.Core.List.{flatMap}
 use mathlib.Core.Path.{_≡_}
 use Prim.Native.Nat.{ℕ, _+_, _-_, _*_, _/_, _%_, _≤_, _<_}
 use lib.ListN.{length}
 use Rattle.codes.specs.declared.CodeParams.{CodeParams}
-use Rattle.codes.specs.declared.«parity_iter».Place.{Place}
 use Rattle.codes.specs.declared.«parity_iter».Block.{Block}
 use Rattle.codes.specs.declared.«parity_iter».Block.the-variants.{Ends, Empty, Identity, Permutation}
 use Rattle.codes.specs.Codes.{Matrix}

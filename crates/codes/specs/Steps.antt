@@ -4,10 +4,8 @@ use Prim.Native.Nat.{ℕ, _+_, _%_}
 use lib.ListN.{getD, set}
 use Rattle.maths.specs.Tests.{pick}
 use Rattle.maths.specs.Lists.{fold}
-use Rattle.codes.specs.declared.«parity_iter».Check.{Check}
-use Rattle.codes.specs.declared.«parity_iter».Bit.{Bit}
 use Rattle.codes.specs.Edges.{Edge}
-use Rattle.codes.specs.Runs.{Run, run, runEdges, within}
+use Rattle.codes.specs.Runs.{Run, runEdges, within}
 use Rattle.codes.specs.Equations.{checkOf, bitOf}
 
 -- what stands at an edge's near end becomes f of that and of g at its far end

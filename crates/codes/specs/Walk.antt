@@ -16,7 +16,7 @@ use Rattle.codes.specs.declared.«parity_iter».Step.the-variants.{Next,
 use Rattle.codes.specs.declared.«parity_iter».Begun.{Begun}
 use Rattle.codes.specs.Answers.{test, firstOf}
 use Rattle.codes.specs.Codes.{known, Known, Matrix, matrixOf}
-use Rattle.codes.specs.Blocks.{place, blockAt, blocks, blocksFrom, headOf}
+use Rattle.codes.specs.Blocks.{place, blockAt, blocksFrom, headOf}
 use Rattle.codes.specs.Edges.{Edge, edge, columnOf, edgeAt, blockEdges, blocksOf}
 
 abbrev pub matrix : ParityIter → Matrix

@@ -10,7 +10,7 @@ use lib.ListN.{length, getD, set}
 use Rattle.maths.specs.Bits.{bitAt}
 use Rattle.maths.specs.Bytes.{byte}
 use Rattle.maths.proofs.Bytes.{bitAt-low, bit-of, byte-is}
-use Rattle.matrices.specs.Frames.{generatorBit}
+use Rattle.codes.specs.Frames.{generatorBit}
 use Rattle.encoder.specs.Rotation.{placed, bitsFrom}
 use Rattle.encoder.specs.Rows.{added, wordBit, rowsAt}
 use Rattle.encoder.proofs.Packed.{xor-bit, word-bit}

@@ -9,7 +9,7 @@ use lib.Seq.{take-at}
 use Rattle.codes.specs.declared.CodeParams.{CodeParams}
 use Rattle.codes.specs.declared.ParamsAnswer.{ParamsAnswer}
 use Rattle.codes.specs.Codes.{codes, Known, rowOf, paramsOf}
-use Rattle.matrices.specs.Frames.{encodedBytes}
+use Rattle.codes.specs.Frames.{encodedBytes}
 use Rattle.encoder.specs.Outcomes.{Encoded, encoded, encodeOutcome, copyEncodeOutcome}
 
 module _ (code : ℕ) (s : List ℕ) where

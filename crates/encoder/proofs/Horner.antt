@@ -7,7 +7,7 @@ use native.Mathlib.Omega.{arith}
 use lib.Arith.{digits-div, digits-mod}
 use Rattle.maths.specs.Sums.{sumN}
 use Rattle.maths.proofs.Sums.{sumN-ext, sumN-add, sumN-zero, sumN-blocks}
-use Rattle.matrices.specs.Frames.{parity, adds}
+use Rattle.codes.specs.Frames.{parity, adds}
 use Rattle.encoder.specs.Rows.{rowsAt, blocksTurned}
 
 -- two sums change places

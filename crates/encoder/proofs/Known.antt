@@ -12,9 +12,8 @@ use Rattle.maths.proofs.Lists.{span-same}
 use Rattle.maths.proofs.Bytes.{bitAt-take}
 use Rattle.codes.specs.declared.CodeParams.{CodeParams}
 use Rattle.codes.specs.Words.{generators}
-use Rattle.codes.specs.Codes.{codes, Known, rows, rowOf, generatorOf}
-use Rattle.matrices.specs.Circulants.{circulantOf}
-use Rattle.matrices.specs.Frames.{parity, generator, generatorBit, encodedBytes}
+use Rattle.codes.specs.Codes.{codes, Known, rows, rowOf, generatorOf, circulantOf}
+use Rattle.codes.specs.Frames.{parity, generator, generatorBit, encodedBytes}
 use Rattle.encoder.specs.Rotation.{placed}
 use Rattle.encoder.specs.Sizes.{Sized}
 use Rattle.encoder.proofs.Packed.{pack-ext}

@@ -5,7 +5,7 @@ use Prim.Native.Nat.{ℕ, _+_, _*_, _/_, _^_, _≤_, _<_}
 use native.Mathlib.Omega.{arith}
 use lib.ListN.{length}
 use Rattle.maths.specs.Bits.{bitAt}
-use Rattle.matrices.specs.Frames.{parity, generatorBit}
+use Rattle.codes.specs.Frames.{parity, generatorBit}
 use Rattle.encoder.specs.Rotation.{placed, bitsFrom}
 use Rattle.encoder.specs.Rows.{added, rowsAt, blocksTurned}
 use Rattle.encoder.specs.Sizes.{Laid, Sized}

@@ -10,7 +10,7 @@ use lib.ListN.{length}
 use Rattle.maths.specs.Sums.{sumN}
 use Rattle.maths.specs.Bits.{bitAt}
 use Rattle.maths.proofs.Sums.{sumN-ext}
-use Rattle.matrices.specs.Frames.{parity, adds}
+use Rattle.codes.specs.Frames.{parity, adds}
 use Rattle.encoder.specs.Rotation.{placed, bitsFrom}
 use Rattle.encoder.specs.Rows.{added, rowsAt, blocksTurned}
 use Rattle.encoder.proofs.Placed.{length-placed, bit-before, bit-within, placed-again, placed-ext}

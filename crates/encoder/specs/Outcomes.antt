@@ -7,7 +7,7 @@ use lib.ListN.{length, take}
 use Rattle.maths.specs.Tests.{pick}
 use Rattle.codes.specs.Answers.{Test, test, firstOf, unlike}
 use Rattle.codes.specs.Codes.{known, rowOf}
-use Rattle.matrices.specs.Frames.{encodedBytes}
+use Rattle.codes.specs.Frames.{encodedBytes}
 
 pub record Encoded : Type 0 where
   pub answer : ℕ

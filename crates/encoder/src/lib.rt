@@ -4,7 +4,7 @@ ghost use mathlib.Core.List.{_++_};
 ghost use Prim.Native.Nat.{_/_, _≤_};
 ghost use lib.ListN.{length, take, drop};
 ghost use Rattle.codes.specs.Codes.{Known, rowOf};
-ghost use Rattle.matrices.specs.Frames.{encodedBytes};
+ghost use Rattle.codes.specs.Frames.{encodedBytes};
 ghost use Rattle.encoder.specs.Outcomes.{encoded, encodeOutcome, copyEncodeOutcome};
 
 mod parity;

@@ -3,7 +3,7 @@ ghost use mathlib.Core.Path.{_≡_};
 ghost use Prim.Native.Nat.{_+_, _-_, _*_, _/_, _%_, _^_, _≤_, _<_};
 ghost use lib.ListN.{length};
 ghost use Rattle.maths.specs.Bits.{bitAt};
-ghost use Rattle.matrices.specs.Frames.{parity, generatorBit};
+ghost use Rattle.codes.specs.Frames.{parity, generatorBit};
 ghost use Rattle.encoder.specs.Rotation.{placed, bitsFrom};
 ghost use Rattle.encoder.specs.Rows.{added, wordBit, rowsAt, blocksTurned};
 ghost use Rattle.encoder.specs.Sizes.{Laid, Sized};

@@ -17,7 +17,7 @@ use Rattle.codes.specs.Codes.{Known, TC, rowOf, bitsIn, checksIn}
 use Rattle.codes.specs.Edges.{edges}
 use Rattle.codes.specs.Equations.{Meets}
 use Rattle.codes.proofs.Flat.{edges-ranged}
-use Rattle.matrices.specs.Frames.{encodedBytes}
+use Rattle.codes.specs.Frames.{encodedBytes}
 use Rattle.matrices.proofs.Apart.{difference-holds}
 use Rattle.matrices.proofs.Distances.{distance-bits, distance-even}
 use Rattle.matrices.proofs.Encoded.{encoded-length, encoded-bytes, encoded-front, encoded-meets}

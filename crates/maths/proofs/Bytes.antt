@@ -13,7 +13,7 @@ use Rattle.maths.specs.Sums.{sumN}
 use Rattle.maths.specs.Bits.{bitAt}
 use Rattle.maths.specs.Bytes.{Bytes, byte, pack}
 use Rattle.maths.proofs.Lists.{getD-span, span-length, span-ext}
-use Rattle.maths.proofs.Slices.{span-again, span-zeros}
+use Rattle.maths.proofs.Slices.{span-again, span-one}
 use Rattle.maths.proofs.Sums.{sumN-ext}
 
 pub bitAt-low : (s : List ℕ) (v : ℕ) → bitAt s v < 2
@@ -74,7 +74,7 @@ bitAt-pack f n i h =
 
 pub pack-zero : (n : ℕ) → pack (λ v. 0) n ≡ replicate n 0
 unfolding pack
-pack-zero n = span-zeros n
+pack-zero n = span-one 0 0 n
 
 -- ---- a byte is made of its bits
 half : (x m : ℕ) → x / m ≡ x / (m * 2) * 2 + x / m % 2
@@ -114,7 +114,7 @@ unfolding pack
 pack-own s n h = span-ext (byte (bitAt s)) (λ i. getD s i 0) 0 0 n (λ i l. byte-own s h (0 + i))
 
 pub pack-again : (s : List ℕ) → Bytes s → pack (bitAt s) (length s) ≡ s
-pack-again s h = pack-own s (length s) h ∙ span-again s
+pack-again s h = pack-own s (length s) h ∙ span-again 0 s
 
 -- two byte strings of one length with the same bits are equal
 pub bits-same : (s t : List ℕ) → length s ≡ length t → Bytes s → Bytes t → ((v : ℕ) → v < length s * 8 → bitAt s v ≡ bitAt t v) → s ≡ t

@@ -1,6 +1,5 @@
 -- Laws of the distance of two byte strings. Assumes nothing.
 use mathlib.Core.Bool.{Bool, true, false}
-use mathlib.Core.Logic.{_≢_}
 use mathlib.Core.Path.{_≡_, refl, sym, ap, _∙_}
 use mathlib.Core.List.{List}
 use Prim.Native.Nat.{ℕ, zero, suc, _+_, _*_, _%_, _<_}
@@ -59,12 +58,6 @@ sum-none (suc n) f e v h = go (ℕ-discrete v n) (sum-none n f (omega arith) v)
     go : Dec (v ≡ n) → (v < n → f v ≡ 0) → f v ≡ 0
     go (yes p) ih = rw p (omega arith)
     go (no p) ih = ih (omega arith)
-
--- words that differ at a place below n differ in some number of places
-pub unequal-some : (f g : ℕ → ℕ) (n v : ℕ) → v < n → f v ≢ g v → 0 < sumN n (unequal f g)
-unequal-some f g n v h ne =
-    let some : sumN n (unequal f g) ≢ 0 = λ z. ne (unequal-zero f g v (sum-none n (unequal f g) z v h)) in
-    omega arith
 
 -- ---- the distance
 module _ (s t : List ℕ) (len : length s ≡ length t) where

@@ -13,6 +13,5 @@ pub mod Triangle
 pub mod Budget
 pub mod Parts
 pub mod Tested
-pub mod Fronts
 pub mod Stores
 pub mod Blocks

@@ -169,14 +169,6 @@ module _ {A S : Type 0} (step : A → S → S) where
   fold-append [] ys s = refl
   fold-append (x ∷ xs) ys s = fold-append xs ys (step x s)
 
-  pub fold-cons : (x : A) (xs : List A) (s : S) → fold step (x ∷ xs) s ≡ fold step xs (step x s)
-  unfolding fold
-  fold-cons x xs s = refl
-
-  pub fold-nil : (s : S) → fold step [] s ≡ s
-  unfolding fold
-  fold-nil s = refl
-
   -- a loop over a span, at turn i of n: inv says that folding what is left over the present state gives all
   module _ (f : ℕ → A) (n i : ℕ) (s : S) {all : S} (inv : fold step (span f i (n - i)) s ≡ all) where
     pub span-turn : {s′ : S} → i < n → s′ ≡ step (f i) s → fold step (span f (i + 1) (n - (i + 1))) s′ ≡ all

@@ -8,7 +8,7 @@ use native.Mathlib.Decide.{decLt}
 use native.Mathlib.Omega.{arith}
 use borrow.Author.Tests.{ne-eqb}
 use lib.Dec.{eqb, eqb·suc-zero}
-use lib.ListN.{length, getD, set, drop, replicate, length-append, length-drop, length-replicate, getD-replicate, drop-of-length-le, List·getD-append, List·getD-eq-default}
+use lib.ListN.{length, getD, set, take, drop, replicate, length-append, length-drop, length-replicate, getD-replicate, drop-of-length-le, List·getD-append, List·getD-eq-default}
 use lib.Seq.{sets, drop-cons, set-at, set-getD, getD-at, getD-append-add, ext-getD}
 use Rattle.maths.specs.Tests.{both, below}
 use Rattle.maths.specs.Lists.{span, fold, largestOf, overwrite}
@@ -27,16 +27,16 @@ span-whole f n past = fun-ext (λ v. at v (decLt v n))
     at v (no h) = List·getD-eq-default (span f 0 n) 0 (omega (arith, span-length f 0 n)) ∙ sym (past v (omega arith))
 
 -- a list with these elements
-pub span-is : (l : List ℕ) (f : ℕ → ℕ) (n : ℕ) → length l ≡ n → ((i : ℕ) → i < n → getD l i 0 ≡ f i) → l ≡ span f 0 n
-span-is l f n e h =
-    ext-getD 0 l (span f 0 n) (e ∙ sym (span-length f 0 n)) (λ i k. let j : i < n = omega arith in h i j ∙ sym (span-get f 0 n i j))
+pub span-is : {A : Type 0} (d : A) (l : List A) (f : ℕ → A) (n : ℕ) → length l ≡ n → ((i : ℕ) → i < n → getD l i d ≡ f i) → l ≡ span f 0 n
+span-is d l f n e h =
+    ext-getD d l (span f 0 n) (e ∙ sym (span-length f 0 n)) (λ i k. let j : i < n = omega arith in h i j ∙ sym (span-get f d n i j))
 
-pub span-again : (l : List ℕ) → span (λ i. getD l i 0) 0 (length l) ≡ l
-span-again l = sym (span-is l (λ i. getD l i 0) (length l) refl (λ i h. refl))
+pub span-again : {A : Type 0} (d : A) (l : List A) → span (λ i. getD l i d) 0 (length l) ≡ l
+span-again d l = sym (span-is d l (λ i. getD l i d) (length l) refl (λ i h. refl))
 
 -- a list read past its end
 pub span-padded : (l : List ℕ) (n : ℕ) → length l ≤ n → span (λ i. getD l i 0) 0 n ≡ l ++ replicate (n - length l) 0
-span-padded l n h = sym (span-is (l ++ zeros) (λ i. getD l i 0) n (length-append l zeros ∙ omega (arith, length-replicate {A = ℕ} (n - length l) 0)) at)
+span-padded l n h = sym (span-is 0 (l ++ zeros) (λ i. getD l i 0) n (length-append l zeros ∙ omega (arith, length-replicate {A = ℕ} (n - length l) 0)) at)
   where
     zeros : List ℕ
     zeros = replicate (n - length l) 0
@@ -52,7 +52,7 @@ span-padded l n h = sym (span-is (l ++ zeros) (λ i. getD l i 0) n (length-appen
             ∙ sym (List·getD-eq-default l 0 (omega arith))
 
 pub span-map : (g : ℕ → ℕ) (l : List ℕ) → span (λ i. g (getD l i 0)) 0 (length l) ≡ map g l
-span-map g l = sym (span-is (map g l) _ (length l) (mapped-length l) (mapped-at l))
+span-map g l = sym (span-is 0 (map g l) _ (length l) (mapped-length l) (mapped-at l))
   where
     mapped-length : (l : List ℕ) → length (map g l) ≡ length l
     mapped-length [] = refl
@@ -69,21 +69,27 @@ replicate-at zero x i = refl
 replicate-at (suc n) x zero = refl
 replicate-at (suc n) x (suc i) = replicate-at n x i
 
-pub span-zeros : (n : ℕ) → span {A = ℕ} (λ i. 0) 0 n ≡ replicate n 0
+-- what is lent from its front
+pub replicate-front : {A : Type 0} (k : ℕ) (x : A) (n : ℕ) → n ≤ k → take n (replicate k x) ≡ replicate n x
+replicate-front k x zero h = refl
+replicate-front zero x (suc n) h = absurd (not-suc-le-zero h)
+replicate-front (suc k) x (suc n) h = ap (λ (xs : List _). x ∷ xs) (replicate-front k x n (le-of-suc-le-suc h))
+
+pub replicate-front-length : {A : Type 0} (k : ℕ) (x : A) (n : ℕ) → n ≤ k → length (take n (replicate k x)) ≡ n
+replicate-front-length k x n h = ap length (replicate-front k x n h) ∙ length-replicate n x
+
+pub span-one : {A : Type 0} (x : A) (s n : ℕ) → span (λ i. x) s n ≡ replicate n x
 unfolding span
-span-zeros n = from 0 n
-  where
-    from : (s n : ℕ) → span {A = ℕ} (λ i. 0) s n ≡ replicate n 0
-    from s zero = refl
-    from s (suc n) = ap {B = List ℕ} (λ l. 0 ∷ l) (from (suc s) n)
+span-one x s zero = refl
+span-one x s (suc n) = ap (λ (l : List _). x ∷ l) (span-one x (suc s) n)
 
 -- its last element
-span-more : (f : ℕ → ℕ) (k : ℕ) → span f 0 (suc k) ≡ span f 0 k ++ (f k ∷ [])
+span-more : {A : Type 0} (f : ℕ → A) (k : ℕ) → span f 0 (suc k) ≡ span f 0 k ++ (f k ∷ [])
 unfolding span
 span-more f k = ap (span f 0) (sym (add-one k)) ∙ span-split f 0 k 1 ∙ rw zero-add
 
 -- ---- a list that is overwritten from its first element on
-module _ (f : ℕ → ℕ) (d : List ℕ) where
+module _ {A : Type 0} (f : ℕ → A) (d : List A) where
   pub overwrite-none : d ≡ overwrite f 0 d
   unfolding span
   overwrite-none = refl
@@ -92,36 +98,36 @@ module _ (f : ℕ → ℕ) (d : List ℕ) where
   overwrite-length k h = length-append (span f 0 k) (drop k d) ∙ omega (arith, span-length f 0 k, length-drop k d)
 
   -- the element at k is not yet overwritten
-  pub overwrite-next : (k : ℕ) → k < length d → getD (overwrite f k d) k 0 ≡ getD d k 0
-  overwrite-next k h = rw (drop-cons d k 0 h) (getD-at (span f 0 k) (getD d k 0) (drop (suc k) d) 0 k (span-length f 0 k))
+  pub overwrite-next : (x : A) (k : ℕ) → k < length d → getD (overwrite f k d) k x ≡ getD d k x
+  overwrite-next x k h = rw (drop-cons d k x h) (getD-at (span f 0 k) (getD d k x) (drop (suc k) d) x k (span-length f 0 k))
 
-  pub overwrite-at : (k i : ℕ) → i < k → getD (overwrite f k d) i 0 ≡ f i
-  overwrite-at k i h = List·getD-append (span f 0 k) (drop k d) 0 i (rw (span-length f 0 k) h) ∙ span-get f 0 k i h
+  pub overwrite-at : (x : A) (k i : ℕ) → i < k → getD (overwrite f k d) i x ≡ f i
+  overwrite-at x k i h = List·getD-append (span f 0 k) (drop k d) x i (rw (span-length f 0 k) h) ∙ span-get f x k i h
 
   pub overwrite-set : (k : ℕ) → k < length d → set (overwrite f k d) k (f k) ≡ overwrite f (suc k) d
   overwrite-set k h =
-      rw (drop-cons d k 0 h, span-more f k)
-      (set-at (span f 0 k) (getD d k 0) (drop (suc k) d) (f k) k (span-length f 0 k) ∙ sym (append-assoc (span f 0 k) (f k ∷ []) (drop (suc k) d)))
+      rw (drop-cons d k (f k) h, span-more f k)
+      (set-at (span f 0 k) (getD d k (f k)) (drop (suc k) d) (f k) k (span-length f 0 k) ∙ sym (append-assoc (span f 0 k) (f k ∷ []) (drop (suc k) d)))
 
   -- by what stands there
-  pub overwrite-same : (k : ℕ) → k ≤ length d → ((i : ℕ) → i < k → f i ≡ getD d i 0) → d ≡ overwrite f k d
-  overwrite-same zero g h = overwrite-none
-  overwrite-same (suc k) g h =
-      let e = overwrite-same k (omega arith) (λ i l. h i (omega arith)) in
-      sym (set-getD d k 0) ∙ ap (λ (l : List ℕ). set l k (getD d k 0)) e ∙ rw (← h k (omega arith)) (overwrite-set k (omega arith))
+  pub overwrite-same : (x : A) (k : ℕ) → k ≤ length d → ((i : ℕ) → i < k → f i ≡ getD d i x) → d ≡ overwrite f k d
+  overwrite-same x zero g h = overwrite-none
+  overwrite-same x (suc k) g h =
+      let e = overwrite-same x k (omega arith) (λ i l. h i (omega arith)) in
+      sym (set-getD d k x) ∙ ap (λ (l : List A). set l k (getD d k x)) e ∙ rw (← h k (omega arith)) (overwrite-set k (omega arith))
 
-  pub overwrite-more : (k : ℕ) {l : List ℕ} {v : ℕ} → l ≡ overwrite f k d → k < length d → v ≡ f k → set l k v ≡ overwrite f (k + 1) d
+  pub overwrite-more : (k : ℕ) {l : List A} {v : A} → l ≡ overwrite f k d → k < length d → v ≡ f k → set l k v ≡ overwrite f (k + 1) d
   overwrite-more k inv h e = rw (inv, e, add-one k) (overwrite-set k h)
 
   pub overwrite-sets : (n k : ℕ) → k + n ≤ length d → sets (overwrite f k d) k (span f k n) ≡ overwrite f (k + n) d
   unfolding span
   overwrite-sets zero k h = rw add-zero
   overwrite-sets (suc n) k h =
-      ap (λ (l : List ℕ). sets l (suc k) (span f (suc k) n)) (overwrite-set k (omega arith))
+      ap (λ (l : List A). sets l (suc k) (span f (suc k) n)) (overwrite-set k (omega arith))
       ∙ overwrite-sets n (suc k) (omega arith)
       ∙ ap (λ (j : ℕ). overwrite f j d) (let e : suc k + n ≡ k + suc n = omega arith in e)
 
-  pub overwrite-all : (k : ℕ) {l : List ℕ} → l ≡ overwrite f k d → k ≤ length d → length d ≤ k → l ≡ span f 0 (length d)
+  pub overwrite-all : (k : ℕ) {l : List A} → l ≡ overwrite f k d → k ≤ length d → length d ≤ k → l ≡ span f 0 (length d)
   overwrite-all k inv g h =
       let e : k ≡ length d = omega arith in
       inv ∙ rw (drop-of-length-le d h, e) (append-nil (span f 0 (length d)))
@@ -135,14 +141,10 @@ module _ (f : ℕ → ℕ) (d : List ℕ) where
   map-none = overwrite-none (λ j. f (getD d j 0)) d
 
   pub map-more : (i : ℕ) {l : List ℕ} {v : ℕ} → l ≡ mapTo f i d → i < length d → v ≡ f (getD l i 0) → set l i v ≡ mapTo f (i + 1) d
-  map-more i inv h e = overwrite-more (λ j. f (getD d j 0)) d i inv h (e ∙ rw (inv, overwrite-next (λ j. f (getD d j 0)) d i h))
+  map-more i inv h e = overwrite-more (λ j. f (getD d j 0)) d i inv h (e ∙ rw (inv, overwrite-next (λ j. f (getD d j 0)) d 0 i h))
 
   pub map-all : (i : ℕ) {l : List ℕ} → l ≡ mapTo f i d → i ≤ length d → length d ≤ i → l ≡ map f d
   map-all i inv g h = overwrite-all (λ j. f (getD d j 0)) d i inv g h ∙ span-map f d
-
-pub map-constant : (k : ℕ) (d : List ℕ) → map (λ (x : ℕ). k) d ≡ replicate (length d) k
-map-constant k [] = refl
-map-constant k (x ∷ d) = ap {B = List ℕ} (λ l. k ∷ l) (map-constant k d)
 
 -- ---- a loop that folds a list from its first element on: inv says that folding what is left over the present state gives all
 module _ {A S : Type 0} (step : A → S → S) (xs : List A) (d : A) (i : ℕ) (s : S) {all : S} (inv : fold step (drop i xs) s ≡ all) where
@@ -170,16 +172,16 @@ largest-last [] x = omega arith
 largest-last (y ∷ xs) x = omega (arith, largest-last xs x)
 
 -- it is 0 if each of them is
+pub max-none : (a b : ℕ) → eqb (max a b) 0 ≡ both (eqb b 0) (eqb a 0)
+max-none a zero = rw max-zero
+max-none a (suc b) = rw (eqb·suc-zero b) (ne-eqb (max a (suc b)) 0 (λ e. omega arith))
+
 pub largest-none : (f : ℕ → ℕ) (n : ℕ) → eqb (largestOf (span f 0 n)) 0 ≡ below n (λ i. eqb (f i) 0)
 unfolding span largestOf
 largest-none f zero = refl
 largest-none f (suc n) =
     ap (λ (l : List ℕ). eqb (largestOf l) 0) (span-more f n) ∙ ap (λ (t : ℕ). eqb t 0) (largest-last (span f 0 n) (f n))
-    ∙ go (largestOf (span f 0 n)) (f n) ∙ ap (both (eqb (f n) 0)) (largest-none f n)
-  where
-    go : (a b : ℕ) → eqb (max a b) 0 ≡ both (eqb b 0) (eqb a 0)
-    go a zero = rw max-zero
-    go a (suc b) = rw (eqb·suc-zero b) (ne-eqb (max a (suc b)) 0 (λ e. omega arith))
+    ∙ max-none (largestOf (span f 0 n)) (f n) ∙ ap (both (eqb (f n) 0)) (largest-none f n)
 
 -- the largest of some numbers is one of them, and none is larger
 largest-bound : (f : ℕ → ℕ) (t s n : ℕ) → ((v : ℕ) → v < n → f (s + v) ≤ t) → largestOf (span f s n) ≤ t

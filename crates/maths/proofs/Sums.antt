@@ -1,12 +1,12 @@
 -- Laws of sums of natural numbers, and of evenness. Assumes nothing.
 use mathlib.Core.Bool.{Bool, true, false}
 use mathlib.Core.Path.{_≡_, refl, sym, ap, ap₂, _∙_}
-use mathlib.Core.List.{List, [], _∷_, _++_, map}
+use mathlib.Core.List.{List, [], _∷_, _++_}
 use Prim.Native.Nat.{ℕ, zero, suc, _+_, _*_, _/_, _%_, _≤_, _<_}
-use native.Mathlib.Nat.{add-zero, add-suc, add-comm, mul-zero, mul-suc, zero-mul, suc-mul, mul-add, mul-mod-left, mul-assoc, le-suc, le-refl, le-trans, div-add-mod'}
+use native.Mathlib.Nat.{add-zero, add-suc, mul-zero, mul-suc, zero-mul, suc-mul, mul-add, mul-mod-left, mul-assoc, le-suc, le-refl, le-trans, div-add-mod'}
 use native.Mathlib.Omega.{arith}
 use Rattle.maths.specs.Tests.{pick}
-use Rattle.maths.specs.Lists.{span, keep}
+use Rattle.maths.specs.Lists.{keep}
 use Rattle.maths.specs.Sums.{sumL, sumN, Even}
 
 pub even-add : (a b : ℕ) → Even a → Even b → Even (a + b)
@@ -16,9 +16,6 @@ pub even-mul : (d x : ℕ) → Even x → Even (d * x)
 even-mul d x p =
     let h : x ≡ x / 2 * 2 = omega (arith, div-add-mod' x 2) in
     rw h (rw (← mul-assoc) (mul-mod-left (d * (x / 2)) 2))
-
-pub even-drop : (a b : ℕ) → Even a → Even (a + b) → Even b
-even-drop a b p q = omega arith
 
 -- a product modulo 2 reads a factor modulo 2
 pub mul-mod : (x y z : ℕ) → x % 2 ≡ y % 2 → x * z % 2 ≡ y * z % 2
@@ -72,10 +69,6 @@ sumL-split f g (v ∷ vs) = go (f v) (sumL-split f g vs)
     go true ih = omega arith
     go false ih = omega arith
 
-pub sumL-map : (h : ℕ → ℕ) (vs : List ℕ) (w : ℕ → ℕ) → sumL (map h vs) w ≡ sumL vs (λ v. w (h v))
-sumL-map h [] w = refl
-sumL-map h (v ∷ vs) w = ap (λ (x : ℕ). w (h v) + x) (sumL-map h vs w)
-
 -- ---- over the numbers below a bound
 
 pub even-sumN : (n : ℕ) (f : ℕ → ℕ) → ((i : ℕ) → i < n → Even (f i)) → Even (sumN n f)
@@ -119,14 +112,3 @@ sumN-blocks (suc m) b f =
 pub sumN-front : (n : ℕ) (f : ℕ → ℕ) → sumN (suc n) f ≡ sumN n (λ t. f (suc t)) + f 0
 sumN-front zero f = refl
 sumN-front (suc n) f = omega (arith, sumN-front n f)
-
--- a sum over numbers that are counted up
-pub sumL-span : (g w : ℕ → ℕ) (s n : ℕ) → sumL (span g s n) w ≡ sumN n (λ t. w (g (s + t)))
-unfolding span
-sumL-span g w s zero = refl
-sumL-span g w s (suc n) =
-    ap (λ (x : ℕ). w (g s) + x)
-    (sumL-span g w (suc s) n ∙ sumN-ext n (λ t. w (g (suc s + t))) (λ t. w (g (s + suc t))) (λ t h. ap (λ (x : ℕ). w (g x)) (omega arith)))
-    ∙ add-comm (w (g s)) (sumN n (λ t. w (g (s + suc t))))
-    ∙ ap (λ (x : ℕ). sumN n (λ t. w (g (s + suc t))) + w (g x)) (sym (add-zero s))
-    ∙ sym (sumN-front n (λ t. w (g (s + t))))

@@ -1,7 +1,7 @@
 -- Laws of the elements of a list that pass a test, and of their number. Assumes nothing.
 use mathlib.Core.Bool.{Bool, true, false, not}
 use mathlib.Core.List.{List, [], _∷_, _++_, map, flatMap}
-use mathlib.Core.Logic.{_≢_, _⊎_, inl, inr}
+use mathlib.Core.Logic.{_≢_}
 use mathlib.Core.Path.{_≡_, refl, ap}
 use Prim.Native.Nat.{ℕ, zero, suc, _+_, _≤_, _<_}
 use native.Mathlib.Nat.{zero-add, le-refl}
@@ -60,17 +60,6 @@ module _ {A : Type 0} (f : A → Bool) where
   tally-none g [] t h = refl
   tally-none g (x ∷ xs) t h =
       rw (h x (both-left (g x) (all g xs) t), tally-none g xs (both-right (g x) (all g xs) t) h)
-
-  -- where all pass another test, none passes this one, or one passes both
-  pub tally-some : (g : A → Bool) (xs : List A) → T (all g xs) → (tally f xs ≡ 0) ⊎ ((x : A) × (T (f x)) × (T (g x)))
-  tally-some g [] t = inl refl
-  tally-some g (x ∷ xs) t = go (f x) refl (tally-some g xs (both-right (g x) (all g xs) t))
-    where
-      go : (b : Bool) → f x ≡ b → (tally f xs ≡ 0) ⊎ ((y : A) × (T (f y)) × (T (g y)))
-          → (pick b 1 0 + tally f xs ≡ 0) ⊎ ((y : A) × (T (f y)) × (T (g y)))
-      go true e s = inr (x, rw e tt, both-left (g x) (all g xs) t)
-      go false e (inl z) = inl (rw z)
-      go false e (inr y) = inr y
 
   -- two tests, one after the other
   pub tally-keep : (g : A → Bool) (xs : List A) → tally (λ x. both (f x) (g x)) xs ≡ tally g (keep f xs)

@@ -120,12 +120,6 @@ module _ {A : Type 0} (f g : A → Bool) where
       let h = all (λ y. both (f y) (g y)) xs in
       both-make (f x) (all f xs) (both-left (f x) (g x) (both-left (both (f x) (g x)) h t)) (all-left xs (both-right (both (f x) (g x)) h t))
 
-  pub all-right : (xs : List A) → T (all (λ x. both (f x) (g x)) xs) → T (all g xs)
-  all-right [] t = tt
-  all-right (x ∷ xs) t =
-      let h = all (λ y. both (f y) (g y)) xs in
-      both-make (g x) (all g xs) (both-right (f x) (g x) (both-left (both (f x) (g x)) h t)) (all-right xs (both-right (both (f x) (g x)) h t))
-
 pub all-append : {A : Type 0} (f : A → Bool) (xs ys : List A) → T (all f xs) → T (all f ys) → T (all f (xs ++ ys))
 all-append f [] ys s t = t
 all-append f (x ∷ xs) ys s t =

@@ -26,5 +26,5 @@ largestOf [] = 0
 largestOf (x ∷ xs) = max x (largestOf xs)
 
 -- the list d, its first k elements replaced by f 0, .., f (k - 1)
-abbrev pub overwrite : (ℕ → ℕ) → ℕ → List ℕ → List ℕ
+abbrev pub overwrite : {A : Type 0} → (ℕ → A) → ℕ → List A → List A
 overwrite f k d = span f 0 k ++ drop k d

@@ -18,10 +18,10 @@ use Rattle.codes.specs.declared.«parity_iter».Place.{Place}
 use Rattle.codes.specs.declared.«parity_iter».Block.{Block}
 use Rattle.codes.specs.declared.«parity_iter».Block.the-variants.{Ends, Empty, Identity, Permutation}
 use Rattle.codes.specs.Tables.{prototypes}
-use Rattle.codes.specs.Codes.{codes, Known, Matrix, matrixOf, prototypeOf, rows, rowOf, tables, bitsIn, checksIn}
+use Rattle.codes.specs.Codes.{codes, Known, Matrix, matrixOf, prototypeOf, rows, rowOf, tables, bitsIn, checksIn, circulantOf}
 use Rattle.codes.specs.Blocks.{blockOf, blockAt, cellBlocks, rowBlocks, lastRows}
 use Rattle.codes.specs.Edges.{Edge, edge, columnOf, edgeAt, blockEdges, blocksOf, edges}
-use Rattle.matrices.specs.Circulants.{Circ, circ, spot, ring, edgesOf, circsAt, blockCircs, circulantOf, circs}
+use Rattle.matrices.specs.Circulants.{Circ, circ, spot, ring, edgesOf, circsAt, blockCircs, circs}
 use Rattle.matrices.proofs.Sizes.{dataBlocks, checkBlocks, bitBlocks, sizes}
 
 -- the edge of row i of a block, by its block row and block column

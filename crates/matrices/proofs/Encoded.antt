@@ -12,10 +12,9 @@ use Rattle.maths.specs.Sums.{sumN}
 use Rattle.maths.specs.Bits.{bitAt}
 use Rattle.maths.specs.Bytes.{Bytes, pack}
 use Rattle.maths.proofs.Bytes.{bitAt-left, bitAt-right, bitAt-pack, length-pack, bytes-pack, bytes-append}
-use Rattle.codes.specs.Codes.{Known, TC, rowOf}
+use Rattle.codes.specs.Codes.{Known, TC, rowOf, circulantOf}
 use Rattle.codes.specs.Equations.{Meets}
-use Rattle.matrices.specs.Circulants.{circulantOf}
-use Rattle.matrices.specs.Frames.{adds, generator, parityOf, frameOf, encodedBytes}
+use Rattle.codes.specs.Frames.{adds, generator, parityOf, frameOf, encodedBytes}
 use Rattle.matrices.proofs.Sizes.{parityBytes, Sizes, sizes, tc-bits}
 use Rattle.matrices.proofs.Edges.{meets-same}
 use Rattle.matrices.proofs.Frames.{frame-data}

@@ -3,16 +3,15 @@ use mathlib.Core.Bool.{Bool, true, false}
 use mathlib.Core.Logic.{_≢_}
 use mathlib.Core.Path.{_≡_, refl, sym, ap, _∙_}
 use Prim.Native.Nat.{ℕ, _+_, _-_, _*_, _%_, _<_}
-use native.Mathlib.Nat.{add-mul, mod-lt}
+use native.Mathlib.Nat.{add-mul}
 use native.Mathlib.Omega.{arith}
 use lib.Dec.{ltb}
 use borrow.Author.Tests.{lt-ltb, ltb-true}
 use Rattle.maths.specs.Tests.{pick}
 use Rattle.maths.specs.Sums.{sumN}
 use Rattle.maths.proofs.Sums.{mul-mod, sumN-ext, sumN-mod, sumN-add}
-use Rattle.codes.specs.Codes.{rowOf}
-use Rattle.matrices.specs.Circulants.{circulantOf}
-use Rattle.matrices.specs.Frames.{adds, generator, parityOf, frameOf}
+use Rattle.codes.specs.Codes.{rowOf, circulantOf}
+use Rattle.codes.specs.Frames.{adds, generator, parityOf, frameOf}
 
 module _ (code : ℕ) where
   -- the first k bits of a frame are the data
@@ -22,14 +21,6 @@ module _ (code : ℕ) where
   -- frames of different data differ where the data does
   pub frame-apart : (d d′ : ℕ → ℕ) (v : ℕ) → v < rowOf code .k → d v ≢ d′ v → frameOf code d v ≢ frameOf code d′ v
   frame-apart d d′ v h ne e = ne (sym (frame-data d v h) ∙ e ∙ frame-data d′ v h)
-
-  -- the frame of bits is made of bits
-  pub frame-low : (d : ℕ → ℕ) → ((i : ℕ) → d i < 2) → (v : ℕ) → frameOf code d v < 2
-  frame-low d bits v = go (ltb v (rowOf code .k))
-    where
-      go : (x : Bool) → pick x (d v) (parityOf code d (v - rowOf code .k)) < 2
-      go true = bits v
-      go false = mod-lt (sumN (rowOf code .k) (λ i. d i * adds (circulantOf code) (generator code) i (v - rowOf code .k))) (omega arith)
 
   -- the frame of the sum of two data words is the sum of their frames, modulo 2
   pub frame-sum : (d d′ e : ℕ → ℕ) → ((i : ℕ) → i < rowOf code .k → e i % 2 ≡ (d i + d′ i) % 2)

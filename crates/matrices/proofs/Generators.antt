@@ -12,9 +12,8 @@ use Rattle.maths.specs.Sums.{sumN}
 use Rattle.maths.specs.Ones.{delta}
 use Rattle.maths.proofs.Sums.{sumN-ext}
 use Rattle.maths.proofs.Ones.{sum-delta}
-use Rattle.codes.specs.Codes.{Known, rowOf}
-use Rattle.matrices.specs.Circulants.{circulantOf}
-use Rattle.matrices.specs.Frames.{adds, parity, frame, generator, frameOf}
+use Rattle.codes.specs.Codes.{Known, rowOf, circulantOf}
+use Rattle.codes.specs.Frames.{adds, parity, frame, generator, frameOf}
 use Rattle.matrices.specs.Generators.{rowBelow, wEntry, systematic, gEntry}
 use Rattle.matrices.proofs.Sizes.{sizes}
 

@@ -13,10 +13,10 @@ use Rattle.maths.proofs.Tests.{both-left, both-right, below-at}
 use Rattle.maths.proofs.Tally.{tally-once}
 use Rattle.maths.proofs.Turns.{turn-alike}
 use Rattle.codes.specs.Tables.{prototypes, thetas}
-use Rattle.codes.specs.Codes.{codes, Known, rows, tables}
+use Rattle.codes.specs.Codes.{codes, Known, rows, tables, circulantOf}
 use Rattle.codes.specs.Blocks.{blockOf, cellBlocks, rowBlocks, lastRows}
 use Rattle.codes.specs.Edges.{blocksOf, edges}
-use Rattle.matrices.specs.Circulants.{Circ, circsAt, blockCircs, circulantOf, circs}
+use Rattle.matrices.specs.Circulants.{Circ, circsAt, blockCircs, circs}
 use Rattle.matrices.specs.Counts.{count}
 use Rattle.matrices.proofs.Sizes.{sizes}
 use Rattle.matrices.proofs.Circulants.{edges-circs}

@@ -20,10 +20,10 @@ use Rattle.maths.proofs.Tests.{both-left, both-right, all-at, all-anywhere, bel
 use Rattle.maths.proofs.Lists.{span-length}
 use Rattle.maths.proofs.Slices.{span-get, replicate-at}
 use Rattle.maths.proofs.Blocks.{zipAdd, getD-zipAdd, turnL, Block, getD-turnL}
-use Rattle.codes.specs.Codes.{Known, rowOf, generatorOf}
+use Rattle.codes.specs.Codes.{Known, rowOf, generatorOf, circulantOf}
 use Rattle.codes.specs.Equations.{Hold, Meets}
-use Rattle.matrices.specs.Circulants.{Circ, circulantOf, circs}
-use Rattle.matrices.specs.Frames.{generatorBit, generator}
+use Rattle.matrices.specs.Circulants.{Circ, circs}
+use Rattle.codes.specs.Frames.{generatorBit, generator}
 use Rattle.matrices.specs.Generators.{wEntry, systematic, gEntry}
 use Rattle.matrices.proofs.Sizes.{dataBlocks, checkBlocks, parityBlocks, sizes}
 use Rattle.matrices.proofs.Circulants.{of-edges}

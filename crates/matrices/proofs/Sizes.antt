@@ -1,17 +1,11 @@
 -- How the sizes of a code's blocks, circulants, edges and bytes go together. Assumes nothing.
-use mathlib.Core.Path.{_≡_, _∙_}
+use mathlib.Core.Path.{_≡_}
 use Prim.Native.Nat.{ℕ, _-_, _*_, _/_, _%_, _≤_, _<_}
 use native.Mathlib.Omega.{arith}
 use lib.Dec.{ltb, leb, ltb→lt, leb→le}
-use lib.ListN.{length}
 use Rattle.maths.proofs.Tests.{below-at, below-eq}
-use Rattle.maths.proofs.Lists.{span-length, flatMap-length}
-use Rattle.codes.specs.Tables.{prototypes}
-use Rattle.codes.specs.Codes.{codes, Known, tcCodes, TC, matrixOf, rowOf, rows, tables, bitsIn, checksIn}
-use Rattle.codes.specs.Blocks.{blockOf, cellBlocks, rowBlocks, lastRows}
-use Rattle.codes.specs.Edges.{edgeAt, blockEdges, blocksOf, edges}
+use Rattle.codes.specs.Codes.{codes, Known, tcCodes, TC, matrixOf, rowOf, rows, bitsIn, checksIn, circulantOf}
 use Rattle.codes.proofs.Codes.{sized}
-use Rattle.matrices.specs.Circulants.{circulantOf}
 
 abbrev pub sizeOf : ℕ → ℕ
 sizeOf code = matrixOf code .size
@@ -76,15 +70,3 @@ sizes code h =
 pub tc-bits : (code : ℕ) → TC code → 8 * (rowOf code .n / 8) ≡ bitsIn code
 unfolding rows
 tc-bits code tc = below-eq tcCodes (λ c. 8 * (rowOf c .n / 8)) bitsIn tt code tc
-
-block-count : (code : ℕ) → Known code → length (blocksOf code) * sizeOf code ≡ rowOf code .«paritycheck_sum»
-unfolding rows tables prototypes blocksOf lastRows rowBlocks cellBlocks blockOf
-block-count code h = below-eq codes (λ c. length (blocksOf c) * sizeOf c) (λ c. rowOf c .«paritycheck_sum») tt code h
-
--- "E edges in all"
-pub edge-count : (code : ℕ) → Known code → length (edges code) ≡ rowOf code .«paritycheck_sum»
-unfolding edges blockEdges
-edge-count code h =
-    flatMap-length (blockEdges (matrixOf code)) (sizeOf code) (blocksOf code)
-    (λ p. span-length (edgeAt (matrixOf code) p) 0 (sizeOf code))
-    ∙ block-count code h

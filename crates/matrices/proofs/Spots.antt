@@ -1,19 +1,17 @@
 -- How many edges of circulants join a check and a bit, by block and offset, and how the number turns. Assumes nothing.
 use mathlib.Core.Bool.{Bool}
 use mathlib.Core.List.{List}
-use mathlib.Core.Logic.{_⊎_, inl, inr}
-use mathlib.Core.Path.{_≡_, ap, _∙_, subst₂, fun-ext}
+use mathlib.Core.Path.{_≡_, ap, _∙_, fun-ext}
 use Prim.Native.Nat.{ℕ, _+_, _*_, _%_, _<_}
 use native.Mathlib.Nat.{mod-lt}
 use lib.Dec.{T, eqb, eqb→eq}
-use Rattle.maths.specs.Tests.{both, all}
+use Rattle.maths.specs.Tests.{both}
 use Rattle.maths.specs.Tally.{tally}
 use Rattle.maths.proofs.Tests.{both-left, both-right}
-use Rattle.maths.proofs.Tally.{tally-keep, tally-some}
 use Rattle.maths.proofs.Turns.{turn-term, turn-eqb}
 use Rattle.matrices.specs.Circulants.{Circ, ring, edgesOf}
 use Rattle.matrices.specs.Counts.{count}
-use Rattle.matrices.proofs.Rows.{inRow, count-laid}
+use Rattle.matrices.proofs.Rows.{count-laid}
 
 -- row t of the circulant has its edge to offset x of the block of bits p
 abbrev pub reaches : ℕ → ℕ → ℕ → ℕ → Circ → Bool
@@ -27,26 +25,10 @@ covers b a t p x k = both (eqb (k .row) a) (reaches b t p x k)
 abbrev pub countAt : ℕ → List Circ → ℕ → ℕ → ℕ → ℕ → ℕ
 countAt b ks a t p x = tally (covers b a t p x) ks
 
--- a test of the bits of row t of some circulants
-abbrev pub allAt : ℕ → (ℕ → ℕ → Bool) → List Circ → ℕ → Bool
-allAt b test ks t = all (λ k. test (k .col) ((k .turn + t) % b)) ks
-
 pub reached : (b t p x : ℕ) (k : Circ) → T (reaches b t p x k) → (k .col ≡ p) × ((k .turn + t) % b ≡ x)
 reached b t p x k h =
     let z = (k .turn + t) % b in
     (eqb→eq (k .col) p (both-left (eqb (k .col) p) (eqb z x) h), eqb→eq z x (both-right (eqb (k .col) p) (eqb z x) h))
-
--- a bit that does not pass a test of all bits of a row has no edge there
-pub hit-or-zero : (b : ℕ) (test : ℕ → ℕ → Bool) (ks : List Circ) (a t : ℕ) → T (allAt b test (inRow ks a) t)
-    → (p x : ℕ) → (countAt b ks a t p x ≡ 0) ⊎ T (test p x)
-hit-or-zero b test ks a t h p x = go (tally-some (reaches b t p x) (λ k. test (k .col) ((k .turn + t) % b)) (inRow ks a) h)
-  where
-    go : (tally (reaches b t p x) (inRow ks a) ≡ 0) ⊎ ((k : Circ) × (T (reaches b t p x k)) × (T (test (k .col) ((k .turn + t) % b))))
-        → (countAt b ks a t p x ≡ 0) ⊎ T (test p x)
-    go (inl z) = inl (tally-keep (λ k. eqb (k .row) a) (reaches b t p x) ks ∙ z)
-    go (inr (k, here, passed)) =
-        let e = reached b t p x k here in
-        inr (subst₂ (λ (q y : ℕ). T (test q y)) (e .0) (e .1) passed)
 
 module _ (b : ℕ) (pos : 0 < b) (ks : List Circ) where
   pub count-circs : (a t p x : ℕ) → t < b → x < b → count (edgesOf b ks) (a * b + t) (p * b + x) ≡ countAt b ks a t p x

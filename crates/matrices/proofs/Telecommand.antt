@@ -11,14 +11,14 @@ use Rattle.maths.specs.Sums.{sumN, Even}
 use Rattle.maths.proofs.Tests.{below-at}
 use Rattle.codes.specs.Tables.{prototypes}
 use Rattle.codes.specs.Words.{generators}
-use Rattle.codes.specs.Codes.{Known, tcCodes, TC, rows, rowOf, bitsIn, checksIn, tables}
+use Rattle.codes.specs.Codes.{Known, tcCodes, TC, rows, rowOf, bitsIn, checksIn, tables, circulantOf}
 use Rattle.codes.specs.Blocks.{blockOf, cellBlocks, rowBlocks, lastRows}
 use Rattle.codes.specs.Edges.{blocksOf, edges}
 use Rattle.codes.specs.Equations.{Meets}
 use Rattle.codes.proofs.Codes.{tc-sent}
 use Rattle.codes.proofs.Flat.{edges-ranged}
-use Rattle.matrices.specs.Circulants.{Circ, circulantOf, circs, circsAt, blockCircs}
-use Rattle.matrices.specs.Frames.{frameOf}
+use Rattle.matrices.specs.Circulants.{Circ, circs, circsAt, blockCircs}
+use Rattle.codes.specs.Frames.{frameOf}
 use Rattle.matrices.specs.Generators.{gEntry}
 use Rattle.matrices.specs.Columns.{Odd}
 use Rattle.matrices.proofs.Sizes.{bitBlocks, sizes}

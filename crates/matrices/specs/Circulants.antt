@@ -6,7 +6,7 @@ use Rattle.maths.specs.Lists.{span}
 use Rattle.codes.specs.declared.«parity_iter».Place.{Place}
 use Rattle.codes.specs.declared.«parity_iter».Block.{Block}
 use Rattle.codes.specs.declared.«parity_iter».Block.the-variants.{Ends, Empty, Identity, Permutation}
-use Rattle.codes.specs.Codes.{Matrix, matrixOf, rowOf}
+use Rattle.codes.specs.Codes.{Matrix, circulantOf, matrixOf}
 use Rattle.codes.specs.Blocks.{blockAt}
 use Rattle.codes.specs.Edges.{Edge, edge, blocksOf}
 
@@ -40,9 +40,6 @@ circsAt x b (Permutation v) r c =
 
 unfoldable pub blockCircs : Matrix → ℕ → Place → List Circ
 blockCircs x b p = circsAt x b (blockAt (x .prototype) p) (p .row) (p .col)
-
-abbrev pub circulantOf : ℕ → ℕ
-circulantOf code = rowOf code .«circulant_size»
 
 -- all circulants of a code, in the order of the walk
 unfoldable pub circs : ℕ → List Circ

@@ -3,9 +3,8 @@ use Prim.Native.Nat.{ℕ, zero, suc, _+_, _-_, _*_, _/_, _%_}
 use lib.Dec.{ltb}
 use Rattle.maths.specs.Tests.{pick}
 use Rattle.maths.specs.Ones.{delta}
-use Rattle.codes.specs.Codes.{rowOf}
-use Rattle.matrices.specs.Circulants.{circulantOf}
-use Rattle.matrices.specs.Frames.{generator}
+use Rattle.codes.specs.Codes.{rowOf, circulantOf}
+use Rattle.codes.specs.Frames.{generator}
 
 -- a row with each block of b bits turned right by one
 abbrev pub turnRow : ℕ → (ℕ → ℕ) → ℕ → ℕ

@@ -3,5 +3,4 @@ pub mod Counts
 pub mod Columns
 pub mod Ccsds
 pub mod Reading
-pub mod Frames
 pub mod Generators

@@ -10,14 +10,14 @@ use lib.IntN.{ℤ}
 use lib.ListN.{length, take, replicate}
 use lib.Seq.{take-append-seam}
 use Rattle.report.specs.declared.Report.{Report}
-use Rattle.report.specs.Report.{ending}
+use Rattle.report.specs.Report.{ending, Told, told}
 use Rattle.bit_flip.specs.Outcome as flip
 use Rattle.min_sum.specs.Confidence.{i8}
 use Rattle.min_sum.specs.Outcomes as soft
 use Rattle.sheet.specs.declared.print.Answer.{Answer}
 use Rattle.sheet.specs.Printing.{room, answerOf}
 use Rattle.replay.specs.declared.cases.Case.{Case}
-use Rattle.replay.specs.Agreement.{Agrees, softened, Converted, Seen, seen, recorded, Compared, bitFlipping, seenFlip, minSum, seenSoft, FlipCompared, SoftCompared}
+use Rattle.replay.specs.Agreement.{Agrees, softened, Converted, recorded, Compared, bitFlipping, toldFlip, minSum, toldSoft, FlipCompared, SoftCompared}
 
 -- no test is false and true
 pub never : {b : Bool} → b ≡ false → b ≡ true → ⊥
@@ -27,8 +27,8 @@ never f t = let z : _≡_ {A = ℕ} 0 1 = cc in omega arith
 pub denies : {P : Type 0} → (P → ⊥) → Agrees false P
 denies h = record { sound = λ e. absurd (never refl e); complete = λ p. absurd (h p) }
 
-pub told : {A : Type 0} {a b d : A} {r : Bool} → a ≡ b → (r ≡ true → a ≡ d) × (a ≡ d → r ≡ true) → Agrees r (b ≡ d)
-told e g = record { sound = λ h. sym e ∙ g .0 h; complete = λ p. g .1 (e ∙ p) }
+pub agrees-by : {A : Type 0} {a b d : A} {r : Bool} → a ≡ b → (r ≡ true → a ≡ d) × (a ≡ d → r ≡ true) → Agrees r (b ≡ d)
+agrees-by e g = record { sound = λ h. sym e ∙ g .0 h; complete = λ p. g .1 (e ∙ p) }
 
 -- a report: its answer is tested, then whether it is a success, then its iterations
 unlike : (a b : Bool) → not (Bool·beq a b) ≡ true → a ≡ b → ⊥
@@ -61,29 +61,29 @@ module _ (r : Report) (c : Case) where
       }
 
 -- a decoder: its report is tested, then its output
-module _ (c : Case) (want : List ℕ) {r : Report} {o : List ℕ} {x : Seen} {b : Bool} (e : seen r o ≡ x) (a : Agrees b (r ≡ recorded c)) where
+module _ (c : Case) (want : List ℕ) {r : Report} {o : List ℕ} {x : Told} {b : Bool} (e : told r o ≡ x) (a : Agrees b (r ≡ recorded c)) where
   other-report : b ≡ false → Compared c want x false o
   other-report f =
       record {
-        agrees = denies (λ p. never f (a .complete (ap (λ (s : Seen). s .report) (e ∙ p))));
-        left = ap (λ (s : Seen). s .output) e;
+        agrees = denies (λ p. never f (a .complete (ap (λ (s : Told). s .report) (e ∙ p))));
+        left = ap (λ (s : Told). s .output) e;
       }
 
   same-report : {t : Bool} → b ≡ true → (t ≡ true → o ≡ want) × (o ≡ want → t ≡ true) → Compared c want x t o
   same-report f g =
       record {
-        agrees = record { sound = λ h. sym e ∙ rw (a .sound f, g .0 h); complete = λ p. g .1 (ap (λ (s : Seen). s .output) (e ∙ p)) };
-        left = ap (λ (s : Seen). s .output) e;
+        agrees = record { sound = λ h. sym e ∙ rw (a .sound f, g .0 h); complete = λ p. g .1 (ap (λ (s : Told). s .output) (e ∙ p)) };
+        left = ap (λ (s : Told). s .output) e;
       }
 
 module _ (c : Case) (want input output working : List ℕ) {r : Report} {o w : List ℕ} {b : Bool}
     (e : flip.left r o w ≡ bitFlipping c input output working) (a : Agrees b (r ≡ recorded c)) where
   pub flip-other : b ≡ false → FlipCompared c want (bitFlipping c input output working) false o w
-  flip-other f = record { compared = other-report c want (ap seenFlip e) a f; working-left = ap (λ (y : flip.Outcome). y .working) e }
+  flip-other f = record { compared = other-report c want (ap toldFlip e) a f; working-left = ap (λ (y : flip.Outcome). y .working) e }
 
   pub flip-same : {t : Bool} → b ≡ true → (t ≡ true → o ≡ want) × (o ≡ want → t ≡ true)
       → FlipCompared c want (bitFlipping c input output working) t o w
-  flip-same f g = record { compared = same-report c want (ap seenFlip e) a f g; working-left = ap (λ (y : flip.Outcome). y .working) e }
+  flip-same f g = record { compared = same-report c want (ap toldFlip e) a f g; working-left = ap (λ (y : flip.Outcome). y .working) e }
 
 -- a decoder of the confidences l that bytes were read as
 module _ (c : Case) (want bytes output : List ℕ) (llrs working : List ℤ) (signs : List ℕ) {l w : List ℤ} {r : Report} {o s : List ℕ} {b : Bool}
@@ -97,7 +97,7 @@ module _ (c : Case) (want bytes output : List ℕ) (llrs working : List ℤ) (si
   pub soft-other : b ≡ false → SoftCompared c want outcome false o w s
   soft-other f =
       record {
-        compared = other-report c want (ap seenSoft left-is) a f;
+        compared = other-report c want (ap toldSoft left-is) a f;
         working-left = ap (λ (y : soft.Outcome ℤ). y .working) left-is;
         signs-left = ap (λ (y : soft.Outcome ℤ). y .«working_u8») left-is;
       }
@@ -105,7 +105,7 @@ module _ (c : Case) (want bytes output : List ℕ) (llrs working : List ℤ) (si
   pub soft-same : {t : Bool} → b ≡ true → (t ≡ true → o ≡ want) × (o ≡ want → t ≡ true) → SoftCompared c want outcome t o w s
   soft-same f g =
       record {
-        compared = same-report c want (ap seenSoft left-is) a f g;
+        compared = same-report c want (ap toldSoft left-is) a f g;
         working-left = ap (λ (y : soft.Outcome ℤ). y .working) left-is;
         signs-left = ap (λ (y : soft.Outcome ℤ). y .«working_u8») left-is;
       }

@@ -12,7 +12,7 @@ use mir.Val.{SFits, toZ, ofZ}
 use mir.Facts.{toZ-ofZ}
 use Rattle.maths.specs.Lists.{span}
 use Rattle.maths.proofs.Lists.{span-length}
-use Rattle.maths.proofs.Fronts.{span-of}
+use Rattle.maths.proofs.Slices.{span-get}
 use Rattle.replay.specs.Agreement.{signed}
 
 module _ (x : ℕ) (few : x < 256) where
@@ -45,7 +45,7 @@ module _ (bytes : List ℕ) where
   pub mapped : (n : ℕ) → n ≡ length bytes → span (signedAt bytes) 0 n ≡ map signed bytes
   mapped n e =
       ext-getD (pos 0) (span (signedAt bytes) 0 n) (map signed bytes) (span-length _ 0 n ∙ e ∙ sym (length-map bytes signed))
-      (λ i h. span-of (signedAt bytes) n i (pos 0) (let k : i < n = rw (span-length (signedAt bytes) 0 n) at h in k) ∙ sym (mapped-at i))
+      (λ i h. span-get (signedAt bytes) (pos 0) n i (let k : i < n = rw (span-length (signedAt bytes) 0 n) at h in k) ∙ sym (mapped-at i))
 
   module _ (soft : List ℤ) where
     pub all-same : length soft ≡ length bytes → ((i : ℕ) → i < length bytes → getD soft i (pos 0) ≡ signedAt bytes i) → soft ≡ map signed bytes

@@ -10,7 +10,7 @@ use lib.ListN.{length, take}
 use Rattle.maths.specs.Tests.{pick}
 use Rattle.codes.specs.Answers.{unlike}
 use Rattle.codes.specs.Codes.{codes, Known, known, rowOf}
-use Rattle.matrices.specs.Frames.{encodedBytes}
+use Rattle.codes.specs.Frames.{encodedBytes}
 use Rattle.matrices.proofs.Encoded.{encoded-front, encoded-length}
 use Rattle.encoder.specs.Outcomes.{Encoded, encoded, encodeOutcome, copyEncodeOutcome}
 use Rattle.encoder.proofs.Answered.{encode-done}

@@ -1,12 +1,12 @@
 -- How long the parts of a case are, and what is lent of a buffer. Assumes nothing.
-use mathlib.Core.Path.{_≡_, _∙_}
+use mathlib.Core.Path.{_≡_, sym, _∙_}
 use Prim.Native.Nat.{ℕ, _≤_, _<_, min}
 use native.Mathlib.Decide.{ℕ-discrete}
 use native.Mathlib.Omega.{arith}
 use borrow.Author.Tests.{ne-eqb}
 use lib.ListN.{length, take, replicate}
+use Rattle.maths.proofs.Slices.{replicate-front, replicate-front-length}
 use Rattle.codes.specs.declared.CodeParams.{CodeParams}
-use Rattle.sheet.proofs.Rooms as rooms
 use Rattle.replay.specs.declared.cases.Case.{Case}
 use Rattle.replay.specs.Agreement.{readLen, writtenLen, lent}
 
@@ -29,7 +29,7 @@ module _ (c : Case) (row : CodeParams) where
 module _ {A : Type 0} (room : ℕ) (x : A) (n : ℕ) {k : ℕ} (e : k ≡ min n room) where
   -- the front of a buffer that is full of one value
   pub lent-long : k ≡ length (take k (replicate room x))
-  lent-long = rooms.lent room x (omega arith)
+  lent-long = sym (replicate-front-length room x k (omega arith))
 
   pub lent-is : take k (replicate room x) ≡ lent room x n
-  lent-is = rooms.lent-is room x k (omega arith) ∙ rw e
+  lent-is = replicate-front room x k (omega arith) ∙ rw e

@@ -9,7 +9,7 @@ use lib.ListN.{length, replicate}
 use Rattle.maths.specs.Tests.{pick}
 use Rattle.codes.specs.declared.CodeParams.{CodeParams}
 use Rattle.report.specs.declared.Report.{Report}
-use Rattle.report.specs.Report.{ending}
+use Rattle.report.specs.Report.{ending, Told, told}
 use Rattle.encoder.specs.Outcomes.{encoded, encodeOutcome, copyEncodeOutcome}
 use Rattle.bit_flip.specs.Outcome as flip
 use Rattle.min_sum.specs.Confidence.{i8}
@@ -69,22 +69,13 @@ pub record Converted {A : Type 0} (x : soft.Written A) (want : List A) (r : Bool
   pub left : buffer ≡ x .buffer
 
 -- ---- the decoders
--- what is compared of a decode: its report and its output
-pub record Seen : Type 0 where
-  pub report : Report
-  pub output : List ℕ
-
--- such a pair
-abbrev pub seen : Report → List ℕ → Seen
-seen r o = record { report = r; output = o }
-
 -- the report that a case records: accepted, a success or not, and so many iterations
 abbrev pub recorded : Case → Report
 recorded c = ending (c .success) (c .iters)
 
 -- a test tells exactly whether what is compared is what the case records, and the output is what was compared
-pub record Compared (c : Case) (want : List ℕ) (x : Seen) (r : Bool) (output : List ℕ) : Type 0 where
-  pub agrees : Agrees r (x ≡ seen (recorded c) want)
+pub record Compared (c : Case) (want : List ℕ) (x : Told) (r : Bool) (output : List ℕ) : Type 0 where
+  pub agrees : Agrees r (x ≡ told (recorded c) want)
   pub left : output ≡ x .output
 
 -- what bit flipping leaves, as the case asks for it
@@ -92,24 +83,24 @@ abbrev pub bitFlipping : Case → List ℕ → List ℕ → List ℕ → flip.Ou
 bitFlipping c input output working = flip.outcome (c .code) input output working (c .most)
 
 -- what is compared of that
-abbrev pub seenFlip : flip.Outcome → Seen
-seenFlip x = seen (x .report) (x .output)
+abbrev pub toldFlip : flip.Outcome → Told
+toldFlip x = told (x .report) (x .output)
 
 -- what min-sum leaves, as the case asks for it, of the confidences that the bytes stand for
 abbrev pub minSum : Case → List ℕ → List ℕ → List ℤ → List ℤ → List ℕ → soft.Outcome ℤ
 minSum c bytes output llrs working signs = soft.decodeOutcome i8 (c .code) (softened bytes llrs) output working signs (c .most)
 
 -- what is compared of that
-abbrev pub seenSoft : soft.Outcome ℤ → Seen
-seenSoft x = seen (x .report) (x .output)
+abbrev pub toldSoft : soft.Outcome ℤ → Told
+toldSoft x = told (x .report) (x .output)
 
 -- bit flipping is compared, and its working buffer is left
 pub record FlipCompared (c : Case) (want : List ℕ) (x : flip.Outcome) (r : Bool) (output working : List ℕ) : Type 0 where
-  pub compared : Compared c want (seenFlip x) r output
+  pub compared : Compared c want (toldFlip x) r output
   pub working-left : working ≡ x .working
 
 -- min-sum is compared, and both its working buffers are left
 pub record SoftCompared (c : Case) (want : List ℕ) (x : soft.Outcome ℤ) (r : Bool) (output : List ℕ) (working : List ℤ) (signs : List ℕ) : Type 0 where
-  pub compared : Compared c want (seenSoft x) r output
+  pub compared : Compared c want (toldSoft x) r output
   pub working-left : working ≡ x .working
   pub signs-left : signs ≡ x .«working_u8»

@@ -6,7 +6,7 @@ ghost use lib.ListN.{length};
 ghost use Rattle.min_sum.specs.Confidence.{i8};
 ghost use Rattle.min_sum.specs.Outcomes.{written, toLlrsOutcome, toHardOutcome};
 ghost use Rattle.sheet.specs.Sheet.{sheetOf};
-ghost use Rattle.replay.specs.Agreement.{Agrees, EncodeCompared, Converted, Compared, FlipCompared, SoftCompared, recorded, bitFlipping, seenFlip, minSum, seenSoft, signed, softened, lent};
+ghost use Rattle.replay.specs.Agreement.{Agrees, EncodeCompared, Converted, Compared, FlipCompared, SoftCompared, recorded, bitFlipping, toldFlip, minSum, toldSoft, signed, softened, lent};
 use crate::cases::Case;
 use crate::cases::least;
 use crate::soft::same_soft;
@@ -60,7 +60,7 @@ pub(crate) fn bit_flipping(
     want: &[u8],
     output: &mut [u8],
 ) -> bool
-    ensures { λ r. ⌜ Compared c (now (want .entry)) (seenFlip (bitFlipping c (now (read .entry)) (now (output .entry)) (lent 5632 0 (row .«decode_bf_working_len»)))) r (now (output .exit)) ⌝ }
+    ensures { λ r. ⌜ Compared c (now (want .entry)) (toldFlip (bitFlipping c (now (read .entry)) (now (output .entry)) (lent 5632 0 (row .«decode_bf_working_len»)))) r (now (output .exit)) ⌝ }
 {
     let mut working = [0u8; 5632];
     let w = least(row.decode_bf_working_len, 5632);
@@ -93,7 +93,7 @@ pub(crate) fn min_sum_i8(
     want: &[u8],
     output: &mut [u8],
 ) -> bool
-    ensures { λ r. ⌜ Compared c (now (want .entry)) (seenSoft (minSum c (now (read .entry)) (now (output .entry)) (lent 5120 (pos 0) (length (now (read .entry)))) (lent 48640 (pos 0) (row .«decode_ms_working_len»)) (lent 192 0 (row .«decode_ms_working_u8_len»)))) r (now (output .exit)) ⌝ }
+    ensures { λ r. ⌜ Compared c (now (want .entry)) (toldSoft (minSum c (now (read .entry)) (now (output .entry)) (lent 5120 (pos 0) (length (now (read .entry)))) (lent 48640 (pos 0) (row .«decode_ms_working_len»)) (lent 192 0 (row .«decode_ms_working_u8_len»)))) r (now (output .exit)) ⌝ }
 {
     let mut llrs = [0i8; 5120];
     let mut working = [0i8; 48640];

@@ -1,5 +1,6 @@
--- The two kinds of report, and what a report says in numbers. Assumes nothing.
+-- The two kinds of report, what a report says in numbers, and what a decoder tells. Assumes nothing.
 use mathlib.Core.Bool.{Bool, true, false}
+use mathlib.Core.List.{List}
 use Prim.Native.Nat.{ℕ}
 use Rattle.report.specs.declared.Report.{Report}
 
@@ -14,3 +15,11 @@ ending b n = record { answer = 0; success = b; iters = n }
 abbrev pub flag : Bool → ℕ
 flag true = 1
 flag false = 0
+
+-- what a decoder tells: its report and the output
+pub record Told : Type 0 where
+  pub report : Report
+  pub output : List ℕ
+
+abbrev pub told : Report → List ℕ → Told
+told r o = record { report = r; output = o }

@@ -1,7 +1,7 @@
 -- What the operations print, by what the library's calls left. Assumes nothing.
 use mathlib.Core.Bool.{true}
 use mathlib.Core.List.{List}
-use mathlib.Core.Path.{_≡_, refl, ap, _∙_}
+use mathlib.Core.Path.{_≡_, ap, _∙_}
 use Prim.Native.Nat.{ℕ}
 use borrow.Author.Tests.{eq-eqb, ne-eqb}
 use lib.IntN.{ℤ, pos, negsuc}
@@ -12,9 +12,10 @@ use Rattle.report.specs.declared.Report.{Report}
 use Rattle.report.specs.Report.{refusal, ending}
 use Rattle.encoder.specs.Outcomes.{Encoded, encoded}
 use Rattle.min_sum.specs.Confidence.{i8}
-use Rattle.min_sum.specs.Outcomes.{Outcome, left, Written, written, toLlrsOutcome, decodeOutcome}
+use Rattle.min_sum.specs.Outcomes.{left, Written, written, toLlrsOutcome, decodeOutcome}
 use Rattle.sheet.specs.Sheet.{reported, encodeReport, encodedText, softText, softFrom, msSheet}
-use Rattle.sheet.proofs.Rooms.{llrs-room, output-room, soft-room, signs-room, lent-is}
+use Rattle.maths.proofs.Slices.{replicate-front}
+use Rattle.sheet.proofs.Rooms.{llrs-room, output-room, soft-room, signs-room}
 
 module _ {answer : ℕ} {codeword : List ℕ} {x : Encoded} (e : encoded answer codeword ≡ x) {r : Report} where
   pub encode-refused : (answer ≡ 0 → ⊥) → r ≡ refusal answer → reported r codeword ≡ encodedText x
@@ -55,5 +56,5 @@ pub soft-lent : (code maxiters : ℕ) (frame : List ℕ) {row : CodeParams} → 
     ≡ msSheet code maxiters frame
 soft-lent code maxiters frame e =
     rw e
-    (soft-over code maxiters frame (lent-is 5120 (pos 0) _ (llrs-room code)) (lent-is 704 0 _ (output-room code)) (lent-is 48640 (pos 0) _ (soft-room code))
-    (lent-is 192 0 _ (signs-room code)))
+    (soft-over code maxiters frame (replicate-front 5120 (pos 0) _ (llrs-room code)) (replicate-front 704 0 _ (output-room code)) (replicate-front 48640 (pos 0) _ (soft-room code))
+    (replicate-front 192 0 _ (signs-room code)))

@@ -1,12 +1,7 @@
 -- The buffers of the operations serve every code, and are lent as zeros. Assumes nothing.
-use mathlib.Core.List.{List, [], _∷_}
-use mathlib.Core.Path.{_≡_, refl, sym, ap}
-use Prim.Native.Nat.{ℕ, zero, suc, _/_, _≤_}
-use native.Mathlib.Nat.{le-of-suc-le-suc}
-use native.Mathlib.Omega.{arith}
+use Prim.Native.Nat.{ℕ, _/_, _≤_}
 use lib.Dec.{T, leb, leb→le}
-use lib.ListN.{length, take, replicate, length-replicate}
-use lib.Seq.{length-take-le}
+use lib.ListN.{length}
 use Rattle.maths.specs.Tests.{all}
 use Rattle.maths.proofs.Tests.{all-anywhere}
 use Rattle.codes.specs.declared.CodeParams.{CodeParams}
@@ -40,12 +35,3 @@ soft-room = below (λ r. r .«decode_ms_working_len») 48640 tt tt
 pub signs-room : (code : ℕ) → rowOf code .«decode_ms_working_u8_len» ≤ 192
 unfolding rows
 signs-room = below (λ r. r .«decode_ms_working_u8_len») 192 tt tt
-
--- the front of a buffer that is full of one value
-pub lent : {A : Type 0} (k : ℕ) (x : A) {n : ℕ} → n ≤ k → n ≡ length (take n (replicate k x))
-lent k x {n} h = sym (length-take-le n (replicate k x) (rw (length-replicate k x) h))
-
-pub lent-is : {A : Type 0} (k : ℕ) (x : A) (n : ℕ) → n ≤ k → take n (replicate k x) ≡ replicate n x
-lent-is k x zero h = refl
-lent-is zero x (suc n) h = absurd (omega arith)
-lent-is (suc k) x (suc n) h = ap (λ (xs : List _). x ∷ xs) (lent-is k x n (le-of-suc-le-suc h))

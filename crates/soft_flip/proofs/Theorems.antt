@@ -16,13 +16,13 @@ use Rattle.maths.specs.Budget.{end, run}
 use Rattle.maths.proofs.Tests.{below-at}
 use Rattle.maths.proofs.Ones.{sum-all}
 use Rattle.codes.specs.Tables.{prototypes}
-use Rattle.codes.specs.Codes.{Known, TC, tcCodes, rows, tables, bitsIn, checksIn}
+use Rattle.codes.specs.Codes.{Known, TC, tcCodes, rows, tables, bitsIn, checksIn, circulantOf}
 use Rattle.codes.specs.Blocks.{blockOf, cellBlocks, rowBlocks, lastRows}
 use Rattle.codes.specs.Edges.{blocksOf, edges}
 use Rattle.codes.specs.Equations.{bitsOf, checksOf, par, wordOf}
 use Rattle.codes.proofs.Flat.{edges-ranged}
 use Rattle.codes.proofs.Codes.{tc-sent}
-use Rattle.matrices.specs.Circulants.{Circ, circulantOf, circs, circsAt, blockCircs, edgesOf}
+use Rattle.matrices.specs.Circulants.{Circ, circs, circsAt, blockCircs, edgesOf}
 use Rattle.matrices.proofs.Sizes.{checkBlocks, sizes}
 use Rattle.matrices.proofs.Circulants.{of-edges}
 use Rattle.matrices.proofs.Once.{once}

@@ -10,12 +10,12 @@ use Rattle.maths.specs.Tests.{pick, below}
 use Rattle.maths.specs.Lists.{span}
 use Rattle.maths.specs.Sums.{sumL}
 use Rattle.codes.specs.Tables.{prototypes, thetas, phis}
-use Rattle.codes.specs.Codes.{tcCodes, TM, rows, rowOf, bitsIn, tables}
+use Rattle.codes.specs.Codes.{tcCodes, TM, rows, rowOf, bitsIn, tables, circulantOf}
 use Rattle.codes.specs.Blocks.{blockOf, cellBlocks, rowBlocks, lastRows}
 use Rattle.codes.specs.Edges.{blocksOf, edges}
 use Rattle.codes.specs.Equations.{bitsOf, par}
 use Rattle.codes.proofs.Codes.{tmCodes, tm-at}
-use Rattle.matrices.specs.Circulants.{edgesOf, circulantOf, circs, circsAt, blockCircs}
+use Rattle.matrices.specs.Circulants.{edgesOf, circs, circsAt, blockCircs}
 use Rattle.matrices.proofs.Sizes.{bitBlocks, sizes}
 use Rattle.matrices.proofs.Circulants.{edges-circs, of-edges}
 use Rattle.bit_flip.specs.Erasures.{fromOn}

@@ -20,7 +20,7 @@ use Rattle.codes.specs.Codes.{Known, TM, rowOf, bitsIn}
 use Rattle.codes.specs.Edges.{edges}
 use Rattle.codes.specs.Equations.{Meets, wordOf}
 use Rattle.codes.proofs.Codes.{roomy, tm-punctured}
-use Rattle.matrices.specs.Frames.{frameOf, encodedBytes}
+use Rattle.codes.specs.Frames.{frameOf, encodedBytes}
 use Rattle.matrices.proofs.Edges.{meets-same}
 use Rattle.matrices.proofs.Encoded.{encoded-bits}
 use Rattle.report.specs.Report.{ending}

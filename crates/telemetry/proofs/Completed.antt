@@ -1,7 +1,7 @@
 -- The frames of the TM codes, completed: they meet every equation, and no other word with the same sent bits does. Assumes nothing.
 use mathlib.Core.Bool.{Bool, true, false}
 use mathlib.Core.Path.{_≡_, refl, sym, ap, _∙_}
-use Prim.Native.Nat.{ℕ, _+_, _-_, _*_, _%_, _<_}
+use Prim.Native.Nat.{ℕ, _+_, _*_, _%_, _<_}
 use native.Mathlib.Nat.{mod-eq-of-lt}
 use native.Mathlib.Decide.{decLt}
 use native.Mathlib.Omega.{arith}
@@ -13,7 +13,7 @@ use Rattle.codes.specs.Codes.{Known, TM, rowOf, bitsIn, checksIn}
 use Rattle.codes.specs.Edges.{edges}
 use Rattle.codes.specs.Equations.{bitsOf, Meets}
 use Rattle.codes.proofs.Flat.{edges-ranged}
-use Rattle.matrices.specs.Frames.{frameOf}
+use Rattle.codes.specs.Frames.{frameOf}
 use Rattle.matrices.proofs.Edges.{hold-sum, par-below, meets-same}
 use Rattle.matrices.proofs.Generators.{frame-of-product}
 use Rattle.matrices.proofs.RowTest.{longRow, row-same, long-meets}

@@ -1,10 +1,9 @@
 -- The sizes of a code in circulants: sent bits, punctured bits, and the third row of blocks. Assumes nothing.
 use mathlib.Core.Path.{_≡_}
-use Prim.Native.Nat.{ℕ, _+_, _-_, _*_, _/_, _≤_}
+use Prim.Native.Nat.{ℕ, _+_, _*_, _/_, _≤_}
 use lib.Dec.{leb, leb→le}
 use Rattle.maths.proofs.Tests.{below-at, below-eq}
-use Rattle.codes.specs.Codes.{codes, Known, rows, rowOf, checksIn}
-use Rattle.matrices.specs.Circulants.{circulantOf}
+use Rattle.codes.specs.Codes.{codes, Known, rows, rowOf, checksIn, circulantOf}
 use Rattle.matrices.proofs.Sizes.{bitBlocks}
 use Rattle.telemetry.specs.Completion.{thirdRow}
 

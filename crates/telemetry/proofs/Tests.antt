@@ -8,11 +8,11 @@ use Rattle.maths.specs.Tests.{below}
 use Rattle.maths.specs.Lists.{span}
 use Rattle.codes.specs.Tables.{prototypes, thetas, phis}
 use Rattle.codes.specs.Words.{generators}
-use Rattle.codes.specs.Codes.{tcCodes, TM, rows, tables}
+use Rattle.codes.specs.Codes.{tcCodes, TM, rows, tables, circulantOf}
 use Rattle.codes.specs.Blocks.{blockOf, cellBlocks, rowBlocks, lastRows}
 use Rattle.codes.specs.Edges.{blocksOf}
 use Rattle.codes.proofs.Codes.{tmCodes, tm-at}
-use Rattle.matrices.specs.Circulants.{Circ, circulantOf, circs, circsAt, blockCircs}
+use Rattle.matrices.specs.Circulants.{Circ, circs, circsAt, blockCircs}
 use Rattle.matrices.proofs.Sizes.{dataBlocks}
 use Rattle.matrices.proofs.Rows.{inRow}
 use Rattle.matrices.proofs.RowTest.{oneL, rowList, generatorBlocks, rowsTest}

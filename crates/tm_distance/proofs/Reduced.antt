@@ -9,7 +9,6 @@ use lib.Dec.{T, eqb, ltb, leb}
 use borrow.Author.Tests.{ltb-true, ltb-false, leb-true, eqb-true}
 use Rattle.maths.specs.Tests.{pick}
 use Rattle.maths.specs.Lists.{keep}
-use Rattle.maths.specs.Sums.{Even}
 use Rattle.maths.proofs.Tests.{both-first, both-second, pick-same}
 use Rattle.maths.proofs.Lists.{flatMap-cons, flatMap-nil}
 use Rattle.maths.proofs.Turns.{turn-term}

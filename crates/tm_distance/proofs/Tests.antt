@@ -6,11 +6,11 @@ use lib.Dec.{T}
 use Rattle.maths.specs.Tests.{below}
 use Rattle.maths.specs.Lists.{span}
 use Rattle.codes.specs.Tables.{prototypes, thetas, phis}
-use Rattle.codes.specs.Codes.{tcCodes, TM, rows, tables}
+use Rattle.codes.specs.Codes.{tcCodes, TM, rows, tables, circulantOf}
 use Rattle.codes.specs.Blocks.{blockOf, cellBlocks, rowBlocks, lastRows}
 use Rattle.codes.specs.Edges.{blocksOf}
 use Rattle.codes.proofs.Codes.{tmCodes, tm-at}
-use Rattle.matrices.specs.Circulants.{Circ, circulantOf, circs, circsAt, blockCircs}
+use Rattle.matrices.specs.Circulants.{Circ, circs, circsAt, blockCircs}
 use Rattle.matrices.proofs.Sizes.{bitBlocks}
 use Rattle.low_weights.proofs.Light.{noneIn}
 use Rattle.telemetry.proofs.Sizes.{sentBlocks, thirdBlock}

@@ -3,8 +3,8 @@ use mathlib.Core.Path.{ap}
 use Prim.Native.Nat.{ℕ, _+_, _*_, _≤_}
 use native.Mathlib.Nat.{add-mul, le-of-mul-le-mul-right}
 use native.Mathlib.Omega.{arith}
-use Rattle.codes.specs.Codes.{TM}
-use Rattle.matrices.specs.Circulants.{circulantOf, circs}
+use Rattle.codes.specs.Codes.{TM, circulantOf}
+use Rattle.matrices.specs.Circulants.{circs}
 use Rattle.matrices.proofs.Sizes.{checkBlocks, bitBlocks, sizes}
 use Rattle.low_weights.specs.Weights.{LeastWeight}
 use Rattle.low_weights.proofs.Weights.{even-rows}

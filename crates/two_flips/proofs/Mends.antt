@@ -115,7 +115,7 @@ module _ (es : List Edge) (m n : ℕ) (ranged : Ranged m n es) where
     restored =
         plus-is w (span (λ v. 0) 0 n) (λ v. 0) (λ v h. span-get (λ v. 0) 0 n v (omega arith))
         ∙ span-ext (λ v. (wordOf w v + 0) % 2) (wordOf w) 0 0 (length w) (λ v h. omega (arith, bits (0 + v)))
-        ∙ span-again w
+        ∙ span-again 0 w
 
     ended : (limit : ℕ) (success : Bool) → run (pass es m) limit 0 (span f 0 n) ≡ end success (0 + k) (span (λ v. 0) 0 n)
         → passes es m limit (plus w (span f 0 n)) ≡ end success k w

@@ -15,11 +15,11 @@ use Rattle.maths.specs.Ones.{delta}
 use Rattle.maths.specs.Budget.{end}
 use Rattle.maths.proofs.Tests.{below-at}
 use Rattle.maths.proofs.Ones.{delta-low, delta-swap}
-use Rattle.codes.specs.Codes.{Known, TC, tcCodes, bitsIn, checksIn}
+use Rattle.codes.specs.Codes.{Known, TC, tcCodes, bitsIn, checksIn, circulantOf}
 use Rattle.codes.specs.Edges.{Edge, edges}
 use Rattle.codes.specs.Equations.{wordOf, Hold, Meets}
 use Rattle.codes.proofs.Flat.{edges-ranged}
-use Rattle.matrices.specs.Circulants.{Circ, circulantOf, circs, edgesOf}
+use Rattle.matrices.specs.Circulants.{Circ, circs, edgesOf}
 use Rattle.matrices.specs.Counts.{count}
 use Rattle.matrices.proofs.Sizes.{checkBlocks, bitBlocks, sizes}
 use Rattle.matrices.proofs.Circulants.{edges-circs, of-edges}

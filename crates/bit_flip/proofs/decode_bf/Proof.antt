@@ -1,7 +1,5 @@
-use mathlib.Core.Path.{_≡_, refl, sym, ap, _∙_}
 use native.Mathlib.Omega.{arith}
 use denote.Ref.{now}
-use lib.ListN.{length}
 use Rattle.codes.proofs.Parity.{asked-roomy}
 use Rattle.bit_flip.proofs.Whole.{refused-code, refused-input, refused-output, refused-working, accepted-call, accepted-by}
 use borrow.Author.Needs.{needs}

@@ -1,12 +1,9 @@
-use mathlib.Core.Path.{_≡_, refl, _∙_}
-use Prim.Native.Nat.{_-_}
+use mathlib.Core.Path.{refl, _∙_}
 use native.Mathlib.Omega.{arith}
 use denote.Ref.{now}
 use lib.ListN.{length}
 use Rattle.maths.specs.Bits.{bitAt}
 use Rattle.maths.specs.Lists.{span}
-use Rattle.codes.specs.Runs.{laid}
-use Rattle.bit_flip.specs.Erasures.{fromOn}
 use Rattle.bit_flip.proofs.Scores.{light-moved}
 use Rattle.bit_flip.proofs.Whole.{received-by, received-bits, filled-bits, filled-none, bits-by}
 use borrow.Author.Needs.{needs}

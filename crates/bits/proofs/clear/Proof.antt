@@ -1,10 +1,10 @@
 use mathlib.Core.Path.{_≡_, refl, _∙_}
-use Prim.Native.Nat.{ℕ, _≤_, _-_}
+use Prim.Native.Nat.{_≤_, _-_}
 use native.Mathlib.Omega.{arith}
 use denote.Ref.{now}
 use lib.ListN.{length, length-set}
 use Rattle.maths.specs.Lists.{overwrite}
-use Rattle.maths.proofs.Slices.{overwrite-none, overwrite-more, overwrite-all, span-zeros}
+use Rattle.maths.proofs.Slices.{overwrite-none, overwrite-more, overwrite-all, span-one}
 use borrow.Author.Needs.{needs}
 use Rattle.bits.proofs.clear.Statement.{statement}
 use Rattle.bits.proofs.clear.Tie as tie
@@ -27,4 +27,4 @@ clear-spec =
     (λ c. search needs)
     (λ c. let t = c .before in (omega arith, simp length-set (t .loop .inv .1), overwrite-more (λ i. 0) (now (t .before .args .s)) (t .loop .i) (t .loop .inv .2) (omega arith) refl))
     (λ c. c .before .loop .inv .1)
-    (λ c. let t = c .before in overwrite-all (λ i. 0) (now (t .before .args .s)) (t .loop .i) (t .loop .inv .2) (omega arith) (omega arith) ∙ span-zeros _))
+    (λ c. let t = c .before in overwrite-all (λ i. 0) (now (t .before .args .s)) (t .loop .i) (t .loop .inv .2) (omega arith) (omega arith) ∙ span-one 0 0 _))

@@ -1,8 +1,6 @@
-use mathlib.Core.Path.{_≡_, sym}
-use Prim.Native.Nat.{_≤_}
 use borrow.Author.Needs.{needs}
 use borrow.Author.Tests.{lt-ltb, le-ltb}
-use lib.ListN.{length, List·getD-eq-default}
+use lib.ListN.{List·getD-eq-default}
 use Rattle.codes.specs.Codes.{rows, row}
 use Rattle.codes.proofs.params.Statement.{statement}
 use Rattle.codes.proofs.params.Tie as tie

@@ -7,7 +7,7 @@ use lib.ListN.{take}
 use Rattle.maths.specs.Bits.{bitAt}
 use Rattle.codes.specs.Words.{generators}
 use Rattle.codes.specs.Codes.{rowOf, generatorOf}
-use Rattle.matrices.specs.Frames.{parity, generatorBit, encodedBytes}
+use Rattle.codes.specs.Frames.{parity, generatorBit, encodedBytes}
 use Rattle.encoder.specs.Rotation.{placed}
 use Rattle.encoder.specs.Sizes.{Sized}
 use Rattle.encoder.proofs.Known.{data-low, known-sized, known-frame}

@@ -1,5 +1,5 @@
 use Rattle.labrador_ldpc.specs.Doors.{softDoor}
-use mathlib.Core.Path.{_≡_, ap, _∙_}
+use mathlib.Core.Path.{ap}
 use borrow.Author.Needs.{needs}
 use Rattle.labrador_ldpc.proofs.ldpc_decode_ms_i8.Statement.{statement}
 use Rattle.labrador_ldpc.proofs.ldpc_decode_ms_i8.Tie as tie

@@ -1,7 +1,5 @@
 use denote.Ref.{now}
 use Rattle.labrador_ldpc.proofs.Rows.{params-ten, params-unknown, params-short}
-use mathlib.Core.Path.{_≡_, ap, _∙_}
-use borrow.Author.Tests.{eq-eqb, ne-eqb}
 use borrow.Author.Needs.{needs}
 use Rattle.labrador_ldpc.proofs.ldpc_params.Statement.{statement}
 use Rattle.labrador_ldpc.proofs.ldpc_params.Tie as tie

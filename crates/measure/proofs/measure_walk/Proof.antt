@@ -5,7 +5,7 @@ use Prim.Native.Nat.{ℕ}
 use native.Mathlib.Omega.{arith}
 use lib.ListN.{length}
 use Rattle.maths.specs.Lists.{fold}
-use Rattle.codes.specs.Edges.{Edge, edges}
+use Rattle.codes.specs.Edges.{Edge}
 use Rattle.codes.specs.Walk.{remaining, after}
 use Rattle.codes.proofs.Remaining.{begin}
 use Rattle.measure.specs.Sum.{added, sumOf}

@@ -1,13 +1,12 @@
 use mathlib.Core.List.{List}
-use mathlib.Core.Path.{_≡_, sym, ap, _∙_}
-use Prim.Native.Nat.{ℕ, _+_, _-_, _*_, _/_, _<_, _≤_}
+use mathlib.Core.Path.{sym, ap, _∙_}
+use Prim.Native.Nat.{ℕ}
 use native.Mathlib.Omega.{arith}
 use denote.Ref.{now}
-use lib.ListN.{length}
 use lib.Seq.{length-take-le}
 use Rattle.sheet.specs.Printing.{answerOf}
 use Rattle.sheet.specs.Reading.{Sheet, sheet}
-use Rattle.sheet.specs.Sheet.{sheetOf, answerTo}
+use Rattle.sheet.specs.Sheet.{answerTo}
 use Rattle.sheet.specs.declared.read.Request.{Request}
 use Rattle.sheet.proofs.Parts.{Asked, asked, asked-nothing, digits-hex, digits-few, frame-fits, frame-there}
 use borrow.Author.Needs.{needs}

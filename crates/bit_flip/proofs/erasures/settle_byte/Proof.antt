@@ -1,9 +1,7 @@
-use mathlib.Core.Path.{_≡_}
 use Prim.Native.Nat.{_/_, _%_}
 use native.Mathlib.Omega.{arith}
 use borrow.Author.Tests.{lt-ltb, le-ltb}
 use Rattle.bit_flip.specs.Steps.{settleByte}
-use borrow.Author.Needs.{needs}
 use Rattle.bit_flip.proofs.erasures.settle_byte.Statement.{statement}
 use Rattle.bit_flip.proofs.erasures.settle_byte.Tie as tie
 

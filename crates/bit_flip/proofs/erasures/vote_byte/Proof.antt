@@ -1,7 +1,5 @@
-use mathlib.Core.Path.{_≡_}
 use borrow.Author.Tests.{eq-eqb, ne-eqb}
 use Rattle.bit_flip.specs.Steps.{voteByte}
-use borrow.Author.Needs.{needs}
 use Rattle.bit_flip.proofs.erasures.vote_byte.Statement.{statement}
 use Rattle.bit_flip.proofs.erasures.vote_byte.Tie as tie
 

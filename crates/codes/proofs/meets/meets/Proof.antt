@@ -1,4 +1,3 @@
-use mathlib.Core.Path.{_≡_, refl, sym, ap, _∙_}
 use native.Mathlib.Omega.{arith}
 use denote.Ref.{now}
 use Rattle.codes.proofs.Parity.{asked-roomy, asked-sizes, met-unknown, met-unlike, met-found}

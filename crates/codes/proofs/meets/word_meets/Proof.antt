@@ -1,11 +1,12 @@
-use mathlib.Core.Path.{_≡_, sym, ap, _∙_}
+use mathlib.Core.Path.{sym, ap, _∙_}
 use native.Mathlib.Omega.{arith}
 use denote.Ref.{now}
 use Prim.Native.Nat.{ℕ}
 use lib.ListN.{take, replicate}
 use lib.Seq.{length-take-le}
+use Rattle.maths.proofs.Slices.{replicate-front-length}
 use Rattle.codes.specs.declared.runs.Runs.{Runs}
-use Rattle.codes.proofs.Parity.{runs-few, runs-room, runs-taken, part-long, bits-few, checks-few, code-met}
+use Rattle.codes.proofs.Parity.{runs-few, runs-room, runs-taken, bits-few, checks-few, code-met}
 use borrow.Author.Needs.{needs}
 use Rattle.codes.proofs.meets.word_meets.Statement.{statement}
 use Rattle.codes.proofs.meets.word_meets.Tie as tie
@@ -19,9 +20,9 @@ word-meets-spec =
     (λ c. runs-room _ (c .before .before .runs-of .ensures))
     (λ c. sym (length-take-le _ _ (runs-room _ (c .before .before .before .runs-of .ensures))))
     (λ c. let s = c .before .before .before .before .before in bits-few (now (s .args .word)) (s .pre))
-    (λ c. let s = c .before .before .before .before .before .before in sym (part-long 5632 (s .args .n) (bits-few (now (s .args .word)) (s .pre))))
+    (λ c. let s = c .before .before .before .before .before .before in sym (replicate-front-length {A = ℕ} 5632 0 (s .args .n) (bits-few (now (s .args .word)) (s .pre))))
     (λ c. let s = c .before .before .before .before .before .before in checks-few (now (s .args .word)) (s .pre))
-    (λ c. let s = c .before .before .before .before .before .before .before in sym (part-long 1536 (s .args .m) (checks-few (now (s .args .word)) (s .pre))))
+    (λ c. let s = c .before .before .before .before .before .before .before in sym (replicate-front-length {A = ℕ} 1536 0 (s .args .m) (checks-few (now (s .args .word)) (s .pre))))
     (λ c κs. search needs)
     (λ c.
     let m = c .before .before in
@@ -29,4 +30,4 @@ word-meets-spec =
     let s = r .before .before in
     let w = now (s .args .word) in
     m .all-met .ensures
-    ∙ code-met w (s .pre) (take (s .args .n) (replicate {A = ℕ} 5632 0)) _ _ (part-long 5632 (s .args .n) (bits-few w (s .pre))) (part-long 1536 (s .args .m) (checks-few w (s .pre))) (runs-taken _ (r .runs-of .ensures))))
+    ∙ code-met w (s .pre) (take (s .args .n) (replicate {A = ℕ} 5632 0)) _ _ (replicate-front-length {A = ℕ} 5632 0 (s .args .n) (bits-few w (s .pre))) (replicate-front-length {A = ℕ} 1536 0 (s .args .m) (checks-few w (s .pre))) (runs-taken _ (r .runs-of .ensures))))

@@ -3,7 +3,6 @@ use mathlib.Core.List.{List}
 use Prim.Native.Nat.{ℕ}
 use borrow.Author.Needs.{needs}
 use borrow.Author.Tests.{lt-ltb, le-ltb}
-use Rattle.codes.specs.declared.«parity_iter».Begun.{Begun}
 use Rattle.codes.specs.declared.«parity_iter».ParityIter.{ParityIter}
 use Rattle.codes.specs.Blocks.{headOf, cellsFrom, lastRows}
 use Rattle.codes.specs.Edges.{blocksOf}

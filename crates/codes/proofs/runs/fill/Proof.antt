@@ -1,11 +1,9 @@
-use mathlib.Core.Path.{_≡_, sym, subst, _∙_, ap}
-use Prim.Native.Nat.{_*_}
+use mathlib.Core.Path.{sym, subst}
 use native.Mathlib.Omega.{arith}
 use denote.Ref.{now}
-use lib.Dec.{lit<}
 use lib.ListN.{length}
 use Rattle.codes.specs.Codes.{Matrix, made}
-use Rattle.codes.specs.Blocks.{blockAt, restOf}
+use Rattle.codes.specs.Blocks.{restOf}
 use Rattle.codes.specs.Runs.{blockRuns}
 use Rattle.codes.specs.Sound.{Small}
 use Rattle.codes.proofs.Remaining.{Lies}

@@ -1,6 +1,5 @@
 use native.Mathlib.Omega.{arith}
 use Rattle.codes.proofs.Sweep.{high-check, high-bit, low-check}
-use borrow.Author.Needs.{needs}
 use Rattle.codes.proofs.runs.lies_within.Statement.{statement}
 use Rattle.codes.proofs.runs.lies_within.Tie as tie
 

@@ -1,7 +1,7 @@
-use mathlib.Core.Path.{_≡_, sym, _∙_}
+use mathlib.Core.Path.{sym}
 use native.Mathlib.Omega.{arith}
 use denote.Ref.{now}
-use lib.ListN.{length, List·getD-eq-default}
+use lib.ListN.{List·getD-eq-default}
 use Rattle.codes.specs.Runs.{run, readRuns}
 use Rattle.codes.proofs.Sweep.{read-length, read-at}
 use borrow.Author.Needs.{needs}

@@ -1,7 +1,6 @@
-use mathlib.Core.Path.{_≡_, refl}
+use mathlib.Core.Path.{refl}
 use native.Mathlib.Omega.{arith}
 use native.Mathlib.Nat.{mul-le-mul-right}
-use borrow.Author.Needs.{needs}
 use Rattle.codes.proofs.runs.times.Statement.{statement}
 use Rattle.codes.proofs.runs.times.Tie as tie
 

@@ -1,7 +1,7 @@
 use Prim.Native.Nat.{_*_, _-_}
 use native.Mathlib.Omega.{arith}
 use denote.Ref.{now}
-use Rattle.matrices.specs.Frames.{generatorBit}
+use Rattle.codes.specs.Frames.{generatorBit}
 use Rattle.encoder.specs.Rows.{added}
 use Rattle.encoder.proofs.Placed.{Grown, grown-none, grown-all}
 use Rattle.encoder.proofs.Adding.{sums, row-more}

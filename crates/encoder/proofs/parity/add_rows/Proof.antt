@@ -3,7 +3,7 @@ use mathlib.Core.Path.{sym, _∙_}
 use Prim.Native.Nat.{_+_, _*_, _-_, _≤_, _<_}
 use native.Mathlib.Omega.{arith}
 use denote.Ref.{now}
-use Rattle.matrices.specs.Frames.{generatorBit}
+use Rattle.codes.specs.Frames.{generatorBit}
 use Rattle.encoder.proofs.Fitting.{block-low, bit-low}
 use Rattle.encoder.proofs.Adding.{Rowed, rowed-none, rowed-set, rowed-clear, rowed-all}
 use borrow.Author.Needs.{needs}

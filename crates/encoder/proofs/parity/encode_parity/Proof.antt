@@ -1,7 +1,7 @@
 use mathlib.Core.Path.{_∙_}
 use Prim.Native.Nat.{_/_, _-_}
 use native.Mathlib.Omega.{arith}
-use Rattle.matrices.specs.Frames.{generatorBit}
+use Rattle.codes.specs.Frames.{generatorBit}
 use Rattle.encoder.proofs.Fitting.{block-some, blocks-bytes, part-low}
 use Rattle.encoder.proofs.Staged.{Staged}
 use Rattle.encoder.proofs.Offsets.{cleared-long, offsets-none, offset-laid, offset-long, offset-more, offsets-all}

@@ -1,11 +1,11 @@
 use mathlib.Core.Path.{_≡_, refl, _∙_}
-use mathlib.Core.List.{List, _++_}
+use mathlib.Core.List.{List}
 use Prim.Native.Nat.{ℕ, _*_, _-_, _≤_}
 use native.Mathlib.Omega.{arith}
 use denote.Ref.{now}
-use lib.ListN.{length, drop, length-set}
-use Rattle.maths.specs.Lists.{span}
-use Rattle.maths.proofs.Fronts.{front-none, front-more, front-all}
+use lib.ListN.{length, length-set}
+use Rattle.maths.specs.Lists.{overwrite}
+use Rattle.maths.proofs.Slices.{overwrite-none, overwrite-more, overwrite-all}
 use lib.Dec.{eqb}
 use lib.IntN.{ℤ, pos, negsuc}
 use mir.Syntax.{w8}
@@ -21,7 +21,7 @@ abbrev llrOf : List ℕ → ℕ → ℤ
 llrOf input i = pick (eqb (bitAt input i) 1) (negsuc 0) (pos 1)
 
 abbrev Inv-loop : tie.InvT-loop
-Inv-loop llrs₀ input i₀ i-end llrs i = (i ≤ length llrs₀) × (length llrs ≡ length llrs₀) × (llrs ≡ span (llrOf input) 0 i ++ drop i llrs₀)
+Inv-loop llrs₀ input i₀ i-end llrs i = (i ≤ length llrs₀) × (length llrs ≡ length llrs₀) × (llrs ≡ overwrite (llrOf input) i llrs₀)
 
 abbrev μ-loop : tie.MeasureT-loop
 μ-loop llrs₀ input i₀ i-end llrs i = length llrs₀ - i
@@ -33,7 +33,7 @@ unpack-spec =
     (tie.spec
     Inv-loop
     μ-loop
-    (λ c. let a = c .before .args in (omega arith, refl, front-none (llrOf (now (a .input))) (now (a .llrs))))
+    (λ c. let a = c .before .args in (omega arith, refl, overwrite-none (llrOf (now (a .input))) (now (a .llrs))))
     (λ c κs.
     let p : length (now (c .before .before .before .args .llrs)) ≡ 8 * length (now (c .before .before .before .args .input)) = c .before .before .before .pre in
     omega (arith, c .loop-test .taken, p))
@@ -45,11 +45,11 @@ unpack-spec =
     let a = t .before .before .args in (
       omega arith,
       simp length-set (t .loop .inv .1),
-      rw (back w8 (c .llr .result) (c .llr .ok), c .llr .ensures) (front-more (llrOf (now (a .input))) (now (a .llrs)) (t .loop .i) (omega arith) (t .loop .inv .2)),
+      rw (back w8 (c .llr .result) (c .llr .ok), c .llr .ensures) (overwrite-more (llrOf (now (a .input))) (now (a .llrs)) (t .loop .i) (t .loop .inv .2) (omega arith) refl),
     ))
     (λ c. c .before .loop .inv .1)
     (λ c.
     let t = c .before in
     let s = t .before .before in
     let a = s .args in
-    front-all (llrOf (now (a .input))) (now (a .llrs)) (t .loop .i) (omega arith) (t .loop .inv .2) ∙ rw (s .pre)))
+    overwrite-all (llrOf (now (a .input))) (now (a .llrs)) (t .loop .i) (t .loop .inv .2) (omega arith) (omega arith) ∙ rw (s .pre)))

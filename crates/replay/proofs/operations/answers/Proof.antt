@@ -3,7 +3,7 @@ use denote.Ref.{now}
 use lib.Seq.{length-take-le}
 use Rattle.sheet.specs.Sheet.{sheetOf}
 use Rattle.sheet.proofs.Writes.{answer-fits}
-use Rattle.replay.proofs.Agreeing.{told, answer-text}
+use Rattle.replay.proofs.Agreeing.{agrees-by, answer-text}
 use borrow.Author.Needs.{needs}
 use Rattle.replay.proofs.operations.answers.Statement.{statement}
 use Rattle.replay.proofs.operations.answers.Tie as tie
@@ -18,4 +18,4 @@ answers-spec =
     (λ c κs. search needs)
     (λ c.
     let s = c .before .before .before in
-    told (answer-text (sheetOf (now (s .before .before .before .args .text))) (s .sheet .ensures)) (c .same .ensures)))
+    agrees-by (answer-text (sheetOf (now (s .before .before .before .args .text))) (s .sheet .ensures)) (c .same .ensures)))

@@ -1,6 +1,6 @@
 use mathlib.Core.Path.{refl}
 use denote.Ref.{now}
-use Rattle.replay.proofs.Agreeing.{told, hard-of, refused, accepted}
+use Rattle.replay.proofs.Agreeing.{agrees-by, hard-of, refused, accepted}
 use borrow.Author.Needs.{needs}
 use Rattle.replay.proofs.operations.to_hard_on.Statement.{statement}
 use Rattle.replay.proofs.operations.to_hard_on.Tie as tie
@@ -28,4 +28,4 @@ to-hard-on-spec =
     let s = h .before .before .before .before in
     let a = s .before .before .before .before .before .args in
     let e = hard-of (a .c .code) (now (a .read)) (now (a .output)) (now (a .llrs)) (s .soften .ensures) (h .llrs-to-hard-i8 .ensures) in
-    (accepted (now (a .want)) e (t .if1 .left) (told refl (c .same .ensures)), s .soften .ensures)))
+    (accepted (now (a .want)) e (t .if1 .left) (agrees-by refl (c .same .ensures)), s .soften .ensures)))

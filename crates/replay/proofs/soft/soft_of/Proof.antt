@@ -1,4 +1,3 @@
-use native.Mathlib.Omega.{arith}
 use Rattle.replay.proofs.Confidence.{lowers, narrows, signed-below, signed-above}
 use borrow.Author.Needs.{needs}
 use Rattle.replay.proofs.soft.soft_of.Statement.{statement}

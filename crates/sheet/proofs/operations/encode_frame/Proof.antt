@@ -1,7 +1,8 @@
-use mathlib.Core.Path.{_∙_}
+use mathlib.Core.Path.{sym, _∙_}
 use Prim.Native.Nat.{ℕ}
 use native.Mathlib.Omega.{arith}
-use Rattle.sheet.proofs.Rooms.{codeword-room, lent, lent-is}
+use Rattle.maths.proofs.Slices.{replicate-front, replicate-front-length}
+use Rattle.sheet.proofs.Rooms.{codeword-room}
 use borrow.Author.Needs.{needs}
 use Rattle.sheet.proofs.operations.encode_frame.Statement.{statement}
 use Rattle.sheet.proofs.operations.encode_frame.Tie as tie
@@ -12,10 +13,10 @@ encode-frame-spec =
     (tie.spec
     (λ c κs. search needs)
     (λ c. let p = c .before in rw (p .params .ensures) (codeword-room (p .before .before .args .code)))
-    (λ c. let p = c .before .before in rw (p .params .ensures) (lent 640 0 (codeword-room (p .before .before .args .code))))
+    (λ c. let p = c .before .before in rw (p .params .ensures) (sym (replicate-front-length 640 0 _ (codeword-room (p .before .before .args .code)))))
     (λ c κs.
     let p = c .before .before in
-    rw (p .params .ensures, ← lent {A = ℕ} 640 0 (codeword-room (p .before .before .args .code))) (omega (arith, codeword-room (p .before .before .args .code))))
+    rw (p .params .ensures, replicate-front-length {A = ℕ} 640 0 _ (codeword-room (p .before .before .args .code))) (omega (arith, codeword-room (p .before .before .args .code))))
     (λ c.
     let p = c .before .before .before .before in
-    c .before .encode-into .ensures ∙ rw (p .params .ensures, lent-is {A = ℕ} 640 0 _ (codeword-room (p .before .before .args .code)))))
+    c .before .encode-into .ensures ∙ rw (p .params .ensures, replicate-front {A = ℕ} 640 0 _ (codeword-room (p .before .before .args .code)))))

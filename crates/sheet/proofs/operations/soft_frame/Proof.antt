@@ -1,13 +1,13 @@
-use mathlib.Core.Path.{_∙_}
-use mathlib.Core.Path.{ap}
+use mathlib.Core.Path.{sym, ap, _∙_}
 use Prim.Native.Nat.{ℕ}
 use native.Mathlib.Omega.{arith}
 use denote.Ref.{now}
-use lib.IntN.{ℤ, pos}
+use lib.IntN.{pos}
 use Rattle.codes.specs.declared.ParamsAnswer.{ParamsAnswer}
 use Rattle.sheet.specs.Printing.{answerOf}
 use Rattle.sheet.proofs.Answers.{soft-lent}
-use Rattle.sheet.proofs.Rooms.{llrs-room, output-room, soft-room, signs-room, lent}
+use Rattle.maths.proofs.Slices.{replicate-front-length}
+use Rattle.sheet.proofs.Rooms.{llrs-room, output-room, soft-room, signs-room}
 use borrow.Author.Needs.{needs}
 use Rattle.sheet.proofs.operations.soft_frame.Statement.{statement}
 use Rattle.sheet.proofs.operations.soft_frame.Tie as tie
@@ -18,16 +18,16 @@ soft-frame-spec =
     (tie.spec
     (λ c κs. search needs)
     (λ c. let p = c .before in rw (p .params .ensures) (llrs-room (p .before .before .args .code)))
-    (λ c. let p = c .before .before in rw (p .params .ensures) (lent 5120 (pos 0) (llrs-room (p .before .before .args .code))))
+    (λ c. let p = c .before .before in rw (p .params .ensures) (sym (replicate-front-length 5120 (pos 0) _ (llrs-room (p .before .before .args .code)))))
     (λ c. let p = c .before .before in rw (p .params .ensures) (output-room (p .before .before .args .code)))
-    (λ c. let p = c .before .before .before in rw (p .params .ensures) (lent 704 0 (output-room (p .before .before .args .code))))
+    (λ c. let p = c .before .before .before in rw (p .params .ensures) (sym (replicate-front-length 704 0 _ (output-room (p .before .before .args .code)))))
     (λ c. let p = c .before .before .before in rw (p .params .ensures) (soft-room (p .before .before .args .code)))
-    (λ c. let p = c .before .before .before .before in rw (p .params .ensures) (lent 48640 (pos 0) (soft-room (p .before .before .args .code))))
+    (λ c. let p = c .before .before .before .before in rw (p .params .ensures) (sym (replicate-front-length 48640 (pos 0) _ (soft-room (p .before .before .args .code)))))
     (λ c. let p = c .before .before .before .before in rw (p .params .ensures) (signs-room (p .before .before .args .code)))
-    (λ c. let p = c .before .before .before .before .before in rw (p .params .ensures) (lent 192 0 (signs-room (p .before .before .args .code))))
+    (λ c. let p = c .before .before .before .before .before in rw (p .params .ensures) (sym (replicate-front-length 192 0 _ (signs-room (p .before .before .args .code)))))
     (λ c κs.
     let p = c .before .before .before .before .before in
-    rw (p .params .ensures, ← lent {A = ℕ} 704 0 (output-room (p .before .before .args .code))) (omega (arith, output-room (p .before .before .args .code))))
+    rw (p .params .ensures, replicate-front-length {A = ℕ} 704 0 _ (output-room (p .before .before .args .code))) (omega (arith, output-room (p .before .before .args .code))))
     (λ c.
     let s = c .before .before .before .before in
     let p = s .before .before .before .before .before .before in

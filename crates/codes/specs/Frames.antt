@@ -7,8 +7,7 @@ use Rattle.maths.specs.Tests.{pick}
 use Rattle.maths.specs.Sums.{sumN}
 use Rattle.maths.specs.Bits.{bitAt}
 use Rattle.maths.specs.Bytes.{pack}
-use Rattle.codes.specs.Codes.{rowOf, generatorOf}
-use Rattle.matrices.specs.Circulants.{circulantOf}
+use Rattle.codes.specs.Codes.{rowOf, circulantOf, generatorOf}
 
 -- "Data bit c × b + o adds (mod 2) row c with each block of b bits rotated right by o": what data bit i adds to parity bit j
 abbrev pub adds : ℕ → (ℕ → ℕ → ℕ) → ℕ → ℕ → ℕ
