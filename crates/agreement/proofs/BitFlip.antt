@@ -12,7 +12,8 @@ use Rattle.maths.specs.Bytes.{Bytes}
 use Rattle.maths.proofs.Bytes.{length-pack, bytes-pack}
 use Rattle.codes.specs.Codes.{TM, rowOf, bitsIn, checksIn}
 use Rattle.codes.specs.Edges.{edges}
-use Rattle.codes.specs.Equations.{wordOf, holds}
+use Rattle.codes.specs.Equations.{wordOf}
+use Rattle.runs.specs.Meets.{holds}
 use Rattle.report.specs.declared.Report.{Report}
 use Rattle.report.specs.Report.{refusal, ending, Told, told}
 use Rattle.bit_flip.specs.Flip.{flipped, pass, passes}

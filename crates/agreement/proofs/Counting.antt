@@ -9,8 +9,9 @@ use Rattle.maths.specs.Budget.{Turn, stop, go, run, iterated}
 use Rattle.maths.proofs.Budget.{Ends, spent, stopped, run-ends}
 use Rattle.codes.specs.Codes.{checksIn}
 use Rattle.codes.specs.Edges.{edges}
-use Rattle.codes.specs.Equations.{holds, Meets}
-use Rattle.codes.proofs.Parity.{holds-hold, hold-holds}
+use Rattle.codes.specs.Equations.{Meets}
+use Rattle.runs.specs.Meets.{holds}
+use Rattle.runs.proofs.Parity.{holds-hold, hold-holds}
 use Rattle.report.specs.declared.Report.{Report}
 use Rattle.report.specs.Report.{ending}
 use Rattle.agreement.specs.Demands.{Counted}

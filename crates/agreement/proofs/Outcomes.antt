@@ -13,13 +13,14 @@ use Rattle.codes.specs.declared.«parity_iter».Step.{Step}
 use Rattle.codes.specs.declared.«parity_iter».ParityIter.{ParityIter}
 use Rattle.codes.specs.declared.«parity_iter».Check.{Check}
 use Rattle.codes.specs.declared.«parity_iter».Bit.{Bit}
-use Rattle.codes.specs.declared.runs.Runs.{Runs}
-use Rattle.codes.specs.declared.runs.EdgeRun.{EdgeRun}
-use Rattle.codes.specs.declared.meets.Met.{Met}
+use Rattle.runs.specs.declared.Runs.{Runs}
+use Rattle.runs.specs.declared.EdgeRun.{EdgeRun}
+use Rattle.runs.specs.declared.meets.Met.{Met}
 use Rattle.codes.specs.Codes.{paramsOf}
 use Rattle.codes.specs.Walk.{remaining, begunOf, stepOf, after}
-use Rattle.codes.specs.Runs.{Run, run, runs, runsOf, readRuns, within, laid}
-use Rattle.codes.specs.Equations.{wordOf, syndromeOf, metOf}
+use Rattle.runs.specs.Runs.{Run, run, runs, runsOf, readRuns, within, laid}
+use Rattle.codes.specs.Equations.{wordOf}
+use Rattle.runs.specs.Meets.{syndromeOf, metOf}
 use Rattle.report.specs.declared.Report.{Report}
 use Rattle.report.specs.Report.{refusal, ending}
 use Rattle.encoder.specs.Outcomes.{Encoded, encoded, encodeOutcome, copyEncodeOutcome}

@@ -22,9 +22,10 @@ use Rattle.codes.specs.Tables.{prototypes, thetas, phis}
 use Rattle.codes.specs.Codes.{rows, tables}
 use Rattle.codes.specs.Blocks.{blockOf, cellBlocks, rowBlocks, lastRows}
 use Rattle.codes.specs.Edges.{Edge, edgeAt, blockEdges, blocksOf, edges}
-use Rattle.codes.specs.Equations.{par, wordOf, Hold, Meets, holds}
-use Rattle.codes.proofs.Flat.{edges-ranged}
-use Rattle.codes.proofs.Parity.{holds-hold}
+use Rattle.codes.specs.Equations.{par, wordOf, Hold, Meets}
+use Rattle.runs.specs.Meets.{holds}
+use Rattle.runs.proofs.Flat.{edges-ranged}
+use Rattle.runs.proofs.Parity.{holds-hold}
 use Rattle.matrices.proofs.Edges.{par-below}
 use Rattle.report.specs.Report.{ending, Told, told}
 use Rattle.bit_flip.specs.Flip.{broken, score, topScore, flipped, pass, passes}

@@ -15,10 +15,11 @@ use Rattle.maths.proofs.Tests.{both-left, both-right, pick-both}
 use Rattle.maths.proofs.Lists.{span-length, span-ext, map-span}
 use Rattle.maths.proofs.Slices.{span-get, span-is}
 use Rattle.codes.specs.Edges.{Edge, inRange}
-use Rattle.codes.specs.Runs.{laid}
-use Rattle.codes.specs.Equations.{checkOf, bitOf, checksOf, par, holds, wordOf, syndromeOf}
-use Rattle.codes.proofs.Tally.{into, put-length, put-at}
-use Rattle.codes.proofs.Parity.{none-broken, laid-ranged}
+use Rattle.runs.specs.Runs.{laid}
+use Rattle.codes.specs.Equations.{checkOf, bitOf, checksOf, par, wordOf}
+use Rattle.runs.specs.Meets.{holds, syndromeOf}
+use Rattle.runs.proofs.Tally.{into, put-length, put-at}
+use Rattle.runs.proofs.Parity.{none-broken, laid-ranged}
 use Rattle.bit_flip.specs.Flip.{broken, score, topScore, flipped, pass}
 use Rattle.bit_flip.specs.Steps.{twice, give, flipByte, Light, Bits}
 

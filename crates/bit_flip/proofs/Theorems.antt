@@ -25,9 +25,10 @@ use Rattle.maths.proofs.Budget.{run-success, run-kept, run-at-once}
 use Rattle.codes.specs.Answers.{firstOf}
 use Rattle.codes.specs.Codes.{codes, Known, TC, known, rowOf, bitsIn, checksIn}
 use Rattle.codes.specs.Edges.{Edge, edges}
-use Rattle.codes.specs.Equations.{Meets, holds, wordOf}
+use Rattle.codes.specs.Equations.{Meets, wordOf}
+use Rattle.runs.specs.Meets.{holds}
 use Rattle.codes.proofs.Codes.{roomy, tc-sent}
-use Rattle.codes.proofs.Parity.{holds-hold, hold-holds}
+use Rattle.runs.proofs.Parity.{holds-hold, hold-holds}
 use Rattle.report.specs.Report.{refusal, ending}
 use Rattle.bit_flip.specs.Flip.{flipped, pass, passes}
 use Rattle.bit_flip.specs.Erasures.{voted, filled, erasurePasses}

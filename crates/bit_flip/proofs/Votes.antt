@@ -15,10 +15,11 @@ use Rattle.maths.proofs.Tests.{pick-both, both-true, both-false}
 use Rattle.maths.proofs.Lists.{span-length, span-ext, map-span}
 use Rattle.maths.proofs.Slices.{span-get, span-is, overwrite-same, overwrite-more, overwrite-all}
 use Rattle.codes.specs.Edges.{Edge, inRange}
-use Rattle.codes.specs.Runs.{laid}
-use Rattle.codes.specs.Equations.{checkOf, bitOf, bitsOf, checksOf, par, wordOf, syndromeOf}
-use Rattle.codes.proofs.Tally.{into, put-length, put-at}
-use Rattle.codes.proofs.Parity.{laid-ranged}
+use Rattle.runs.specs.Runs.{laid}
+use Rattle.codes.specs.Equations.{checkOf, bitOf, bitsOf, checksOf, par, wordOf}
+use Rattle.runs.specs.Meets.{syndromeOf}
+use Rattle.runs.proofs.Tally.{into, put-length, put-at}
+use Rattle.runs.proofs.Parity.{laid-ranged}
 use Rattle.bit_flip.specs.Erasures.{holes, others, ayes, nays, voted, filled, erasurePasses, fromOn}
 use Rattle.bit_flip.specs.Steps.{hole, dig, give, voteByte, settleByte, setFrom, Light, Bits, Marked}
 use Rattle.bit_flip.proofs.Scores.{gave, sum-ranged}

@@ -21,11 +21,12 @@ use Rattle.bits.specs.Packed.{wholeBytes, unpacked}
 use Rattle.codes.specs.declared.ParamsAnswer.{ParamsAnswer}
 use Rattle.codes.specs.Codes.{codes, known, rowOf, paramsOf, bitsIn, checksIn}
 use Rattle.codes.specs.Edges.{Edge, edges}
-use Rattle.codes.specs.Runs.{runs, numbers, laid}
+use Rattle.runs.specs.Runs.{runs, numbers, laid}
 use Rattle.codes.specs.Equations.{wordOf}
 use Rattle.codes.proofs.Codes.{roomy}
-use Rattle.codes.proofs.Parity.{laid-runs, asked-unknown, asked-known}
-use Rattle.codes.proofs.Light.{light}
+use Rattle.codes.proofs.Codes.{asked-unknown, asked-known}
+use Rattle.runs.proofs.Parity.{laid-runs}
+use Rattle.runs.proofs.Light.{light}
 use Rattle.report.specs.declared.Report.{Report}
 use Rattle.report.specs.Report.{refusal, ending}
 use Rattle.bit_flip.specs.Flip.{passes}

@@ -8,7 +8,8 @@ use Rattle.maths.specs.Lists.{span, largestOf}
 use Rattle.maths.specs.Sums.{sumL}
 use Rattle.maths.specs.Budget.{Turn, stop, go, End, run}
 use Rattle.codes.specs.Edges.{Edge}
-use Rattle.codes.specs.Equations.{checksOf, par, holds, wordOf}
+use Rattle.codes.specs.Equations.{checksOf, par, wordOf}
+use Rattle.runs.specs.Meets.{holds}
 
 -- 1 where the check a is broken: the sum of its bits is odd
 unfoldable pub broken : List Edge → List ℕ → ℕ → ℕ

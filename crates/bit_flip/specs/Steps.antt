@@ -10,7 +10,7 @@ use Rattle.maths.specs.Lists.{span}
 use Rattle.codes.specs.Codes.{Known, rowOf, checksIn}
 use Rattle.codes.specs.Edges.{Edge}
 use Rattle.codes.specs.Equations.{checkOf, bitOf, checksOf, wordOf}
-use Rattle.codes.specs.Steps.{put}
+use Rattle.runs.specs.Steps.{put}
 
 -- twice what each check has, to the bits of its edges
 abbrev pub twice : ℕ → ℕ → ℕ

@@ -5,17 +5,17 @@ ghost use mathlib.Core.List.{List, map};
 ghost use Prim.Native.Nat.{ℕ, _-_, _≤_};
 ghost use lib.ListN.{length};
 ghost use Rattle.maths.specs.Lists.{fold};
-ghost use Rattle.codes.specs.Runs.{run, laid};
+ghost use Rattle.runs.specs.Runs.{run, laid};
 ghost use Rattle.codes.specs.Equations.{wordOf};
-ghost use Rattle.codes.specs.Steps.{overRun};
+ghost use Rattle.runs.specs.Steps.{overRun};
 ghost use Rattle.bit_flip.specs.Erasures.{voted, filled, erasurePasses, fromOn};
 ghost use Rattle.bit_flip.specs.Steps.{hole, dig, voteByte, settleByte, setFrom, Light, Bits, Marked};
 use crate::passes::give_runs;
-use codes::meets::syndrome;
 use codes::parity_iter::Bit;
 use codes::parity_iter::Check;
-use codes::runs::lies_within;
-use codes::runs::run_at;
+use runs::lies_within;
+use runs::meets::syndrome;
+use runs::run_at;
 
 // Parity and erased bits of a check, with one bit more. At 4 there is no vote whatever follows.
 fn add_hole(x: u8, y: u8) -> u8

@@ -4,16 +4,17 @@ ghost use mathlib.Core.List.{map};
 ghost use lib.ListN.{length};
 ghost use Rattle.maths.specs.Lists.{fold};
 ghost use Rattle.maths.specs.Budget.{end};
-ghost use Rattle.codes.specs.Runs.{run, laid};
-ghost use Rattle.codes.specs.Equations.{wordOf, syndromeOf};
-ghost use Rattle.codes.specs.Steps.{overRun};
+ghost use Rattle.runs.specs.Runs.{run, laid};
+ghost use Rattle.codes.specs.Equations.{wordOf};
+ghost use Rattle.runs.specs.Meets.{syndromeOf};
+ghost use Rattle.runs.specs.Steps.{overRun};
 ghost use Rattle.bit_flip.specs.Flip.{flipped, passes};
 ghost use Rattle.bit_flip.specs.Steps.{twice, give, flipByte, Light, Bits};
-use codes::meets::syndrome;
 use codes::parity_iter::Bit;
 use codes::parity_iter::Check;
-use codes::runs::lies_within;
-use codes::runs::run_at;
+use runs::lies_within;
+use runs::meets::syndrome;
+use runs::run_at;
 
 fn plus_twice(x: u8, y: u8) -> u8
     ensures { λ r. ⌜ r ≡ twice x y ⌝ }

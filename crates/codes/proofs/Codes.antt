@@ -2,20 +2,21 @@
 use mathlib.Core.Bool.{Bool, true, false}
 use mathlib.Core.List.{[]}
 use mathlib.Core.Path.{_≡_, refl, sym, _∙_, subst}
-use Prim.Native.Nat.{ℕ, _+_, _-_, _*_, _/_, _%_, _<_}
+use Prim.Native.Nat.{ℕ, _+_, _-_, _*_, _/_, _%_, _≤_, _<_}
 use native.Mathlib.Omega.{arith}
 use lib.Dec.{T, ltb, leb, eqb, ltb→lt, leb→le, eqb→eq}
-use lib.ListN.{length, getD}
-use borrow.Author.Tests.{ltb-false}
+use lib.ListN.{length, getD, List·getD-eq-default}
+use borrow.Author.Tests.{ltb-true, ltb-false}
 use Rattle.maths.specs.Tests.{pick, both, all, below}
 use Rattle.maths.proofs.Tests.{both-left, both-right, all-at, all-anywhere, below-at, below-eq}
 use Rattle.maths.proofs.Lists.{span-length, flatMap-length}
 use Rattle.codes.specs.declared.CodeParams.{CodeParams}
+use Rattle.codes.specs.declared.ParamsAnswer.{ParamsAnswer}
 use Rattle.codes.specs.declared.MatrixTables.{MatrixTables}
 use Rattle.codes.specs.declared.«parity_iter».Block.{Block}
 use Rattle.codes.specs.declared.«parity_iter».Block.the-variants.{Ends, Empty, Identity, Permutation}
 use Rattle.codes.specs.Tables.{prototypes}
-use Rattle.codes.specs.Codes.{codes, Known, tcCodes, TC, TM, rows, row, rowOf, bitsIn, checksIn, tables, tablesOf, matrixOf, prototypeOf}
+use Rattle.codes.specs.Codes.{codes, Known, known, paramsOf, tcCodes, TC, TM, rows, row, rowOf, bitsIn, checksIn, tables, tablesOf, matrixOf, prototypeOf}
 use Rattle.codes.specs.Blocks.{byteAt, blockOf, cellBlocks, rowBlocks, lastRows}
 use Rattle.codes.specs.Edges.{edgeAt, blockEdges, blocksOf, edges}
 use Rattle.codes.specs.Sound.{Sized, Small, Roomy}
@@ -98,6 +99,10 @@ tables-low code h =
     let a = all-at tables-test (record { prototype = 0; phi = 0 }) tables tt code h in
     (ltb→lt (t .prototype) 6 (both-left (ltb (t .prototype) 6) (ltb (t .phi) 3) a), ltb→lt (t .phi) 3 (both-right (ltb (t .prototype) 6) (ltb (t .phi) 3) a))
 
+pub tables-unknown : (code : ℕ) → codes ≤ code → tablesOf code ≡ record { prototype = 0; phi = 0 }
+unfolding tables
+tables-unknown code h = List·getD-eq-default tables _ h
+
 -- every prototype byte is below 154, so that a permutation's value is below 26
 byte-test : ℕ → Bool
 byte-test b = ltb b 154
@@ -139,3 +144,23 @@ edge-count code h =
     flatMap-length (blockEdges (matrixOf code)) (matrixOf code .size) (blocksOf code)
     (λ p. span-length (edgeAt (matrixOf code) p) 0 (matrixOf code .size))
     ∙ block-count code h
+
+-- ---- what was asked by `params`
+module _ (code : ℕ) {p : ParamsAnswer} (e : p ≡ paramsOf code) where
+  -- a code whose parameters are refused, and one whose parameters are not
+  pub asked-unknown : (p .answer ≡ 0 → ⊥) → (known code ≡ false) × (p .answer ≡ 1)
+  asked-unknown h = go (known code) refl
+    where
+      go : (b : Bool) → known code ≡ b → (known code ≡ false) × (p .answer ≡ 1)
+      go true k = absurd (h (rw (e, k)))
+      go false k = (k, rw (e, k))
+
+  pub asked-known : p .answer ≡ 0 → Known code
+  asked-known h = go (known code) refl
+    where
+      go : (b : Bool) → known code ≡ b → Known code
+      go true k = ltb-true code codes k
+      go false k = absurd (let z : p .answer ≡ 1 = rw (e, k) in omega arith)
+
+  pub asked-roomy : p .answer ≡ 0 → Roomy (p .row)
+  asked-roomy h = rw e (roomy code (asked-known h))

@@ -3,11 +3,3 @@ pub mod Codes
 pub mod Columns
 pub mod Walk
 pub mod Remaining
-pub mod Stored
-pub mod Filling
-pub mod Filled
-pub mod Flat
-pub mod Sweep
-pub mod Tally
-pub mod Parity
-pub mod Light

@@ -3,7 +3,7 @@ use mathlib.Core.List.{List, [], _∷_, _++_}
 use Prim.Native.Nat.{ℕ, zero, suc, _+_, _-_, _%_}
 use lib.Dec.{ltb, eqb}
 use lib.ListN.{getD}
-use Rattle.maths.specs.Tests.{pick}
+use Rattle.maths.specs.Tests.{pick, both}
 use Rattle.codes.specs.declared.«parity_iter».Place.{Place}
 use Rattle.codes.specs.declared.«parity_iter».Found.{Found}
 use Rattle.codes.specs.declared.«parity_iter».Found.the-variants.{At, Nothing}
@@ -71,3 +71,7 @@ module _ (H : List (List (List ℕ))) where
 abbrev pub headOf : List Place → Found
 headOf [] = Nothing
 headOf (p ∷ ps) = At p
+
+-- the next block after a place of a prototype; none where it is no place
+abbrev pub nextBlock : List (List (List ℕ)) → Place → Found
+nextBlock H p = pick (both (ltb (p .row) 4) (both (ltb (p .col) 11) (ltb (p .layer) 3))) (headOf (blocksFrom H (p .row) (p .col) (p .layer + 1))) Nothing

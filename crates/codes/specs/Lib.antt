@@ -5,8 +5,6 @@ pub mod Codes
 pub mod Blocks
 pub mod Edges
 pub mod Walk
-pub mod Runs
 pub mod Sound
 pub mod Equations
-pub mod Steps
 pub mod Frames

@@ -1,14 +1,9 @@
 -- What the tables of the codes satisfy, as the functions over them ask it. Assumes nothing.
-use mathlib.Core.List.{flatMap}
 use mathlib.Core.Path.{_≡_}
 use Prim.Native.Nat.{ℕ, _+_, _-_, _*_, _/_, _%_, _≤_, _<_}
-use lib.ListN.{length}
 use Rattle.codes.specs.declared.CodeParams.{CodeParams}
 use Rattle.codes.specs.declared.«parity_iter».Block.{Block}
 use Rattle.codes.specs.declared.«parity_iter».Block.the-variants.{Ends, Empty, Identity, Permutation}
-use Rattle.codes.specs.Codes.{Matrix}
-use Rattle.codes.specs.Blocks.{byteAt, blockOf, blocks}
-use Rattle.codes.specs.Runs.{room, blockRuns}
 
 -- the size of a block: at least 16, at most 512, and a multiple of 4
 pub record Sized (m : ℕ) : Type 0 where
@@ -22,19 +17,6 @@ Small Ends = Unit
 Small Empty = Unit
 Small (Identity v) = v < 64
 Small (Permutation v) = v < 26
-
--- the runs of a block fit after t others
-pub record Fits (t a v m : ℕ) : Type 0 where
-  pub sized : Sized m
-  pub free : t + 8 ≤ room
-  pub check-low : a + m < 65536
-  pub bit-low : v + m < 65536
-
--- the blocks of a matrix are of the kinds that the tables serve, and their runs fit a list
-pub record Fills (x : Matrix) : Type 0 where
-  pub sized : Sized (x .size)
-  pub small : (l r c : ℕ) → Small (blockOf (byteAt (x .prototype) l r c))
-  pub few : length (flatMap (blockRuns x) (blocks (x .prototype))) + 8 ≤ room
 
 -- the bits and checks of a code fit the arrays that are made for them, and its bytes are whole
 pub record Roomy (r : CodeParams) : Type 0 where

@@ -4,9 +4,7 @@ ghost use Rattle.codes.specs.Codes.{Known, rowOf, paramsOf, prototypeOf,
 
 pub mod compact_generators;
 pub mod compact_parity_checks;
-pub mod meets;
 pub mod parity_iter;
-pub mod runs;
 
 use compact_parity_checks::PHI_J_K;
 use compact_parity_checks::PROTOTYPES;
@@ -202,20 +200,27 @@ pub(crate) fn row_of(code: usize) -> CodeParams
     PARAMS[code]
 }
 
-pub(crate) fn prototype_of(code: usize) -> [[[u8; 11]; 4]; 3]
-    requires { ⌜ Known code ⌝ }
+// The prototype and the table phi of a code; the first ones where it is not known.
+pub fn prototype_of(code: usize) -> [[[u8; 11]; 4]; 3]
     ensures { λ r. ⌜ r ≡ prototypeOf code ⌝ }
 {
-    let t = TABLES[code].prototype;
-    PROTOTYPES[t]
+    if code < CODES {
+        let t = TABLES[code].prototype;
+        PROTOTYPES[t]
+    } else {
+        PROTOTYPES[0]
+    }
 }
 
-pub(crate) fn phi_of(code: usize) -> [[u16; 26]; 4]
-    requires { ⌜ Known code ⌝ }
+pub fn phi_of(code: usize) -> [[u16; 26]; 4]
     ensures { λ r. ⌜ r ≡ phiOf code ⌝ }
 {
-    let t = TABLES[code].phi;
-    PHI_J_K[t]
+    if code < CODES {
+        let t = TABLES[code].phi;
+        PHI_J_K[t]
+    } else {
+        PHI_J_K[0]
+    }
 }
 
 // The parameters of a code.

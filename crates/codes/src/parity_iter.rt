@@ -3,7 +3,7 @@ ghost use mathlib.Core.Path.{_≡_};
 ghost use mathlib.Core.List.{[]};
 ghost use Prim.Native.Nat.{_<_, _≤_, _%_};
 ghost use Rattle.codes.specs.Codes.{made};
-ghost use Rattle.codes.specs.Blocks.{blockOf, cellsFrom, blocksFrom, headOf};
+ghost use Rattle.codes.specs.Blocks.{blockOf, blocks, cellsFrom, blocksFrom, headOf, nextBlock};
 ghost use Rattle.codes.specs.Edges.{identityColumn, permutationColumn};
 ghost use Rattle.codes.specs.Walk.{Inside, matrix, remaining, startAt, begunOf, nextOf, nextStep, stepOf, after};
 use crate::ACCEPTED;
@@ -40,7 +40,7 @@ pub enum Block {
     Permutation(usize),
 }
 
-pub(crate) fn block_of(byte: u8) -> Block
+pub fn block_of(byte: u8) -> Block
     ensures { λ r. ⌜ r ≡ blockOf byte ⌝ }
 {
     match byte {
@@ -52,7 +52,7 @@ pub(crate) fn block_of(byte: u8) -> Block
 }
 
 // A cell asks its layers. Past the last column the next row's first cell is asked.
-pub(crate) fn cell(h: &[[[u8; 11]; 4]; 3], row: usize, col: usize) -> Found
+fn cell(h: &[[[u8; 11]; 4]; 3], row: usize, col: usize) -> Found
     requires { ⌜ (row < 4) × (col ≤ 11) ⌝ }
     ensures { λ r. ⌜ r ≡ headOf (cellsFrom (now (h .entry)) row col) ⌝ }
 {
@@ -66,7 +66,7 @@ pub(crate) fn cell(h: &[[[u8; 11]; 4]; 3], row: usize, col: usize) -> Found
 }
 
 // A layer that has edges is the answer; a spent one asks the next layer, or the next cell.
-pub(crate) fn layer(h: &[[[u8; 11]; 4]; 3], row: usize, col: usize, l: usize) -> Found
+fn layer(h: &[[[u8; 11]; 4]; 3], row: usize, col: usize, l: usize) -> Found
     requires { ⌜ (row < 4) × (col < 11) ⌝ }
     ensures { λ r. ⌜ r ≡ headOf (blocksFrom (now (h .entry)) row col l) ⌝ }
 {
@@ -80,6 +80,28 @@ pub(crate) fn layer(h: &[[[u8; 11]; 4]; 3], row: usize, col: usize, l: usize) ->
         Block::Identity(_) => Found::At(Place { row, col, layer: l }),
         Block::Permutation(_) => Found::At(Place { row, col, layer: l }),
     }
+}
+
+// The first block of a prototype, and the next one after a place; none where that is no place of a prototype.
+pub fn first_block(h: &[[[u8; 11]; 4]; 3]) -> Found
+    ensures { λ r. ⌜ r ≡ headOf (blocks (now (h .entry))) ⌝ }
+{
+    cell(h, 0, 0)
+}
+
+pub fn next_block(h: &[[[u8; 11]; 4]; 3], p: Place) -> Found
+    ensures { λ r. ⌜ r ≡ nextBlock (now (h .entry)) p ⌝ }
+{
+    if p.row >= 4 {
+        return Found::Nothing;
+    }
+    if p.col >= 11 {
+        return Found::Nothing;
+    }
+    if p.layer >= 3 {
+        return Found::Nothing;
+    }
+    layer(h, p.row, p.col, p.layer + 1)
 }
 
 fn identity_column(m: usize, v: usize, i: usize) -> usize
@@ -98,13 +120,13 @@ fn permutation_column(m: usize, theta: &[u8; 26], phi: &[[u16; 26]; 4], v: usize
     q * ((byte(theta[v]) + j) % 4) + (wide(phi[j][v]) + i) % q
 }
 
-pub(crate) fn byte(x: u8) -> usize
+pub fn byte(x: u8) -> usize
     ensures { λ r. ⌜ (r ≡ x) × (r < 256) ⌝ }
 {
     x as usize
 }
 
-pub(crate) fn wide(x: u16) -> usize
+pub fn wide(x: u16) -> usize
     ensures { λ r. ⌜ (r ≡ x) × (r < 65536) ⌝ }
 {
     x as usize

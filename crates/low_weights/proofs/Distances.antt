@@ -16,7 +16,7 @@ use Rattle.maths.proofs.Distance.{distance-zero, unequal-low}
 use Rattle.codes.specs.Codes.{Known, TC, rowOf, bitsIn, checksIn}
 use Rattle.codes.specs.Edges.{edges}
 use Rattle.codes.specs.Equations.{Meets}
-use Rattle.codes.proofs.Flat.{edges-ranged}
+use Rattle.runs.proofs.Flat.{edges-ranged}
 use Rattle.codes.specs.Frames.{encodedBytes}
 use Rattle.matrices.proofs.Apart.{difference-holds}
 use Rattle.matrices.proofs.Distances.{distance-bits, distance-even}

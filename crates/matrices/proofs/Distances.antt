@@ -12,7 +12,7 @@ use Rattle.codes.specs.Codes.{Known, TC, rowOf, bitsIn, checksIn}
 use Rattle.codes.specs.Edges.{edges}
 use Rattle.codes.specs.Equations.{Meets}
 use Rattle.codes.proofs.Codes.{roomy, tc-sent}
-use Rattle.codes.proofs.Flat.{edges-ranged}
+use Rattle.runs.proofs.Flat.{edges-ranged}
 use Rattle.matrices.proofs.Apart.{apart-even}
 use Rattle.matrices.proofs.Telecommand.{column-odd}
 

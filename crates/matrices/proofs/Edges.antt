@@ -19,7 +19,7 @@ use Rattle.maths.proofs.Ones.{sum-delta, sum-counts}
 use Rattle.codes.specs.Codes.{Known, bitsIn, checksIn}
 use Rattle.codes.specs.Edges.{Edge, inRange, edges}
 use Rattle.codes.specs.Equations.{ends, bitOf, checkOf, bitsOf, checksOf, par, Hold, Meets}
-use Rattle.codes.proofs.Flat.{edges-ranged}
+use Rattle.runs.proofs.Flat.{edges-ranged}
 use Rattle.matrices.specs.Counts.{count}
 use Rattle.matrices.specs.Columns.{Odd}
 

@@ -16,7 +16,7 @@ use Rattle.codes.specs.Blocks.{blockOf, cellBlocks, rowBlocks, lastRows}
 use Rattle.codes.specs.Edges.{blocksOf, edges}
 use Rattle.codes.specs.Equations.{Meets}
 use Rattle.codes.proofs.Codes.{tc-sent}
-use Rattle.codes.proofs.Flat.{edges-ranged}
+use Rattle.runs.proofs.Flat.{edges-ranged}
 use Rattle.matrices.specs.Circulants.{Circ, circs, circsAt, blockCircs}
 use Rattle.codes.specs.Frames.{frameOf}
 use Rattle.matrices.specs.Generators.{gEntry}

@@ -2,11 +2,11 @@
 ghost use mathlib.Core.Path.{_≡_};
 ghost use Prim.Native.Nat.{_+_, _%_};
 ghost use lib.ListN.{length};
-ghost use Rattle.codes.specs.Runs.{runs};
+ghost use Rattle.runs.specs.Runs.{runs};
 ghost use Rattle.measure.specs.Sum.{sumOf};
 use codes::parity_iter::Step;
 use codes::parity_iter::iter_paritychecks;
-use codes::runs::runs_of;
+use runs::runs_of;
 
 // Small enough that no sum wraps.
 fn folded(sum: usize, check: usize, bit: usize) -> usize

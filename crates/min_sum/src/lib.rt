@@ -4,7 +4,7 @@ ghost use mathlib.Core.Path.{_≡_};
 ghost use Prim.Native.Nat.{_-_, _*_};
 ghost use lib.ListN.{length};
 ghost use Rattle.codes.specs.Codes.{rowOf};
-ghost use Rattle.codes.specs.Runs.{runEdges, readRuns};
+ghost use Rattle.runs.specs.Runs.{runEdges, readRuns};
 ghost use Rattle.report.specs.Report.{ending};
 ghost use Rattle.min_sum.specs.Confidence.{i8};
 ghost use Rattle.min_sum.specs.MinSum.{decoded};
@@ -24,7 +24,6 @@ use codes::WRONG_SIGNS;
 use codes::WRONG_WORKING;
 use codes::WRONG_WRITTEN;
 use codes::params;
-use codes::runs::runs_of;
 use llrs::pack;
 use min_sum::Found;
 use min_sum::Layout;
@@ -34,6 +33,7 @@ use min_sum::run_passes;
 use report::Report;
 use report::finished;
 use report::refused;
+use runs::runs_of;
 
 // The number of the first test that a decode fails, or 0; of each buffer its length.
 fn refusal(

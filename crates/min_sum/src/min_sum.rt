@@ -8,7 +8,7 @@ ghost use Rattle.maths.specs.Tests.{pick, below};
 ghost use Rattle.maths.specs.Parts.{spliced};
 ghost use Rattle.maths.specs.Budget.{stop, go, end, run};
 ghost use Rattle.maths.specs.Lists.{fold};
-ghost use Rattle.codes.specs.Runs.{runEdges, readRuns};
+ghost use Rattle.runs.specs.Runs.{runEdges, readRuns};
 ghost use Rattle.min_sum.specs.Confidence.{i8};
 ghost use Rattle.min_sum.specs.MinSum.{link, numbered, addMessage, turn};
 ghost use Rattle.min_sum.specs.Working.{negativeIn, markOf, held, heldChecked, takeChecked, runLinks, Sized, Inside, Rest, Ready};

@@ -19,8 +19,9 @@ use Rattle.maths.proofs.Slices.{span-get}
 use Rattle.maths.proofs.Sums.{sumL-add, sumL-mod, sumL-zero}
 use Rattle.maths.proofs.Ones.{delta-self, delta-other}
 use Rattle.codes.specs.Edges.{Edge, inRange}
-use Rattle.codes.specs.Equations.{bitsOf, checksOf, par, wordOf, Hold, holds}
-use Rattle.codes.proofs.Parity.{holds-hold, hold-holds}
+use Rattle.codes.specs.Equations.{bitsOf, checksOf, par, wordOf, Hold}
+use Rattle.runs.specs.Meets.{holds}
+use Rattle.runs.proofs.Parity.{holds-hold, hold-holds}
 use Rattle.bit_flip.specs.Steps.{Bits}
 use Rattle.bit_flip.proofs.Scores.{sum-ranged}
 use Rattle.two_flips.specs.Words.{plus, oneAt}

@@ -20,7 +20,7 @@ use Rattle.codes.specs.Codes.{Known, TC, tcCodes, rows, tables, bitsIn, checksI
 use Rattle.codes.specs.Blocks.{blockOf, cellBlocks, rowBlocks, lastRows}
 use Rattle.codes.specs.Edges.{blocksOf, edges}
 use Rattle.codes.specs.Equations.{bitsOf, checksOf, par, wordOf}
-use Rattle.codes.proofs.Flat.{edges-ranged}
+use Rattle.runs.proofs.Flat.{edges-ranged}
 use Rattle.codes.proofs.Codes.{tc-sent}
 use Rattle.matrices.specs.Circulants.{Circ, circs, circsAt, blockCircs, edgesOf}
 use Rattle.matrices.proofs.Sizes.{checkBlocks, sizes}

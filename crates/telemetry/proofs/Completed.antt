@@ -12,7 +12,7 @@ use Rattle.maths.proofs.Sums.{sumL-split, sumN-ext}
 use Rattle.codes.specs.Codes.{Known, TM, rowOf, bitsIn, checksIn}
 use Rattle.codes.specs.Edges.{edges}
 use Rattle.codes.specs.Equations.{bitsOf, Meets}
-use Rattle.codes.proofs.Flat.{edges-ranged}
+use Rattle.runs.proofs.Flat.{edges-ranged}
 use Rattle.codes.specs.Frames.{frameOf}
 use Rattle.matrices.proofs.Edges.{hold-sum, par-below, meets-same}
 use Rattle.matrices.proofs.Generators.{frame-of-product}

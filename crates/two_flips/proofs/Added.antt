@@ -16,7 +16,8 @@ use Rattle.maths.proofs.Sums.{sumL-add, sumL-mod}
 use Rattle.maths.proofs.Lists.{span-length, span-ext}
 use Rattle.maths.proofs.Slices.{span-get}
 use Rattle.codes.specs.Edges.{Edge}
-use Rattle.codes.specs.Equations.{bitsOf, wordOf, Hold, holds}
+use Rattle.codes.specs.Equations.{bitsOf, wordOf, Hold}
+use Rattle.runs.specs.Meets.{holds}
 use Rattle.matrices.proofs.Edges.{Ranged}
 use Rattle.bit_flip.specs.Flip.{broken, score, topScore, flipped, pass, passes}
 use Rattle.bit_flip.specs.Steps.{Bits}

@@ -29,7 +29,7 @@ use Rattle.codes.specs.Codes.{Known, TC, rowOf, bitsIn, checksIn}
 use Rattle.codes.specs.Edges.{edges}
 use Rattle.codes.specs.Equations.{wordOf, Meets}
 use Rattle.codes.proofs.Codes.{roomy, tc-sent}
-use Rattle.codes.proofs.Flat.{edges-ranged}
+use Rattle.runs.proofs.Flat.{edges-ranged}
 use Rattle.report.specs.Report.{ending}
 use Rattle.bit_flip.specs.Flip.{passes}
 use Rattle.bit_flip.specs.Steps.{Bits}

@@ -18,8 +18,9 @@ use Rattle.maths.proofs.Ones.{delta-self, delta-other}
 use Rattle.maths.proofs.Lists.{span-length, span-ext}
 use Rattle.maths.proofs.Slices.{span-get, span-again, largest-is}
 use Rattle.codes.specs.Edges.{Edge}
-use Rattle.codes.specs.Equations.{bitsOf, checksOf, par, wordOf, Hold, holds}
-use Rattle.codes.proofs.Parity.{holds-hold, hold-holds}
+use Rattle.codes.specs.Equations.{bitsOf, checksOf, par, wordOf, Hold}
+use Rattle.runs.specs.Meets.{holds}
+use Rattle.runs.proofs.Parity.{holds-hold, hold-holds}
 use Rattle.matrices.proofs.Edges.{Ranged, par-below}
 use Rattle.bit_flip.specs.Flip.{broken, score, topScore, flipped, pass, passes}
 use Rattle.bit_flip.specs.Steps.{Bits}

@@ -18,7 +18,7 @@ use Rattle.maths.proofs.Ones.{delta-low, delta-swap}
 use Rattle.codes.specs.Codes.{Known, TC, tcCodes, bitsIn, checksIn, circulantOf}
 use Rattle.codes.specs.Edges.{Edge, edges}
 use Rattle.codes.specs.Equations.{wordOf, Hold, Meets}
-use Rattle.codes.proofs.Flat.{edges-ranged}
+use Rattle.runs.proofs.Flat.{edges-ranged}
 use Rattle.matrices.specs.Circulants.{Circ, circs, edgesOf}
 use Rattle.matrices.specs.Counts.{count}
 use Rattle.matrices.proofs.Sizes.{checkBlocks, bitBlocks, sizes}

@@ -6,8 +6,8 @@ use lib.ListN.{replicate}
 use lib.Seq.{length-take-le}
 use Rattle.bits.proofs.Packed.{packed-whole}
 use Rattle.maths.proofs.Slices.{replicate-front-length}
-use Rattle.codes.specs.declared.runs.Runs.{Runs}
-use Rattle.codes.proofs.Parity.{runs-few, runs-room, runs-taken}
+use Rattle.runs.specs.declared.Runs.{Runs}
+use Rattle.runs.proofs.Parity.{runs-few, runs-room, runs-taken}
 use Rattle.bit_flip.proofs.Whole.{checks-few, whole-input, sent-low, whole-output, light-by, decoded-by}
 use borrow.Author.Needs.{needs}
 use Rattle.bit_flip.proofs.decode.Statement.{statement}

@@ -1,6 +1,6 @@
 use native.Mathlib.Omega.{arith}
 use denote.Ref.{now}
-use Rattle.codes.proofs.Parity.{asked-roomy}
+use Rattle.codes.proofs.Codes.{asked-roomy}
 use Rattle.bit_flip.proofs.Whole.{refused-code, refused-input, refused-output, refused-working, accepted-call, accepted-by}
 use borrow.Author.Needs.{needs}
 use Rattle.bit_flip.proofs.decode_bf.Statement.{statement}

@@ -3,7 +3,7 @@ use Prim.Native.Nat.{_-_}
 use native.Mathlib.Omega.{arith}
 use denote.Ref.{now}
 use lib.ListN.{length}
-use Rattle.codes.specs.Runs.{laid}
+use Rattle.runs.specs.Runs.{laid}
 use Rattle.bit_flip.specs.Erasures.{fromOn}
 use Rattle.bit_flip.proofs.Scores.{light-moved}
 use Rattle.bit_flip.proofs.Votes.{no-bits, no-limit, erased-by}

@@ -7,11 +7,11 @@ use lib.ListN.{length, length-set}
 use Rattle.maths.specs.Lists.{span, fold}
 use Rattle.maths.proofs.Lists.{span-turn, span-end}
 use Rattle.codes.specs.Edges.{edge}
-use Rattle.codes.specs.Runs.{run, runEdges}
+use Rattle.runs.specs.Runs.{run, runEdges}
 use Rattle.codes.specs.Equations.{checkOf, bitOf, wordOf}
 use Rattle.bit_flip.specs.Steps.{hole, dig}
-use Rattle.codes.proofs.Sweep.{within-low, run-first, run-swept, run-passed}
-use Rattle.codes.proofs.Tally.{put-is}
+use Rattle.runs.proofs.Sweep.{within-low, run-first, run-swept, run-passed}
+use Rattle.runs.proofs.Tally.{put-is}
 use borrow.Author.Needs.{needs}
 use Rattle.bit_flip.proofs.erasures.dig_run.Statement.{statement}
 use Rattle.bit_flip.proofs.erasures.dig_run.Tie as tie

@@ -6,7 +6,7 @@ use denote.Ref.{now}
 use lib.ListN.{length}
 use Rattle.maths.specs.Budget.{run}
 use Rattle.maths.proofs.Budget.{run-first, run-more, run-stop, run-out}
-use Rattle.codes.specs.Runs.{laid}
+use Rattle.runs.specs.Runs.{laid}
 use Rattle.bit_flip.specs.Flip.{pass, passes}
 use Rattle.bit_flip.specs.Steps.{Bits}
 use Rattle.bit_flip.proofs.Scores.{syndrome-moved, light-moved, flipped-moved, flipped-kept, pass-stops, pass-goes}

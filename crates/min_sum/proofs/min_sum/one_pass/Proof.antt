@@ -1,7 +1,7 @@
 use mathlib.Core.List.{flatMap}
 use mathlib.Core.Path.{_∙_}
 use denote.Ref.{now}
-use Rattle.codes.specs.Runs.{runEdges, readRuns}
+use Rattle.runs.specs.Runs.{runEdges, readRuns}
 use Rattle.min_sum.specs.Confidence.{i8}
 use Rattle.min_sum.proofs.Pass.{turn-by}
 use borrow.Author.Needs.{needs}

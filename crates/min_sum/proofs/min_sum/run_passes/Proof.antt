@@ -6,7 +6,7 @@ use denote.Ref.{now}
 use lib.ListN.{length}
 use Rattle.maths.specs.Budget.{run}
 use Rattle.maths.proofs.Budget.{run-first, run-more, run-stop, run-out}
-use Rattle.codes.specs.Runs.{runEdges, readRuns}
+use Rattle.runs.specs.Runs.{runEdges, readRuns}
 use Rattle.min_sum.specs.Confidence.{i8}
 use Rattle.min_sum.specs.MinSum.{turn}
 use Rattle.min_sum.specs.Working.{held}

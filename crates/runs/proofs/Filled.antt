@@ -1,0 +1,60 @@
+-- The runs of a code fit the list that holds them. Assumes nothing.
+use mathlib.Core.Bool.{Bool}
+use mathlib.Core.Path.{_≡_, refl, _∙_}
+use mathlib.Core.List.{List, [], _++_, flatMap}
+use Prim.Native.Nat.{ℕ, _+_, _-_, _*_, _≤_}
+use native.Mathlib.Omega.{arith}
+use lib.Dec.{T, leb, leb→le}
+use lib.ListN.{length, replicate}
+use borrow.Author.Tests.{lt-ltb, le-ltb}
+use Rattle.maths.specs.Tests.{below}
+use Rattle.maths.proofs.Tests.{below-at}
+use Rattle.maths.proofs.Stores.{sets-replicate}
+use Rattle.codes.specs.Tables.{prototypes, thetas, phis}
+use Rattle.codes.specs.Codes.{codes, Known, rows, tables, matrixOf, prototypeOf}
+use Rattle.codes.specs.Blocks.{blockOf, cellBlocks, rowBlocks, lastRows, blocks}
+use Rattle.codes.specs.Edges.{blocksOf}
+use Rattle.runs.specs.Runs.{Run, turned, quarters, blockRuns, runs, numbers, room, runsOf, Stored}
+use Rattle.runs.specs.Sound.{Fills}
+use Rattle.codes.proofs.Codes.{sized, block-small}
+use Rattle.runs.proofs.Stored.{numbers-length}
+
+pub runs-known : (code : ℕ) → Known code → runs code ≡ flatMap (blockRuns (matrixOf code)) (blocks (prototypeOf code))
+unfolding runs blocksOf
+runs-known code h = rw (lt-ltb code codes h)
+
+pub runs-unknown : (code : ℕ) → codes ≤ code → runs code ≡ []
+unfolding runs blocksOf flatMap
+runs-unknown code h = rw (le-ltb code codes h)
+
+few-test : ℕ → Bool
+few-test code = leb (length (flatMap (blockRuns (matrixOf code)) (blocks (prototypeOf code))) + 8) room
+
+tested : T (below codes few-test)
+unfolding few-test rows tables prototypes thetas phis blockOf cellBlocks rowBlocks lastRows flatMap blockRuns turned quarters
+tested = tt
+
+pub fills : (code : ℕ) → Known code → Fills (matrixOf code)
+unfolding few-test
+fills code h =
+    record {
+      sized = sized code h;
+      small = λ l r c. block-small code l r c _ refl;
+      few = leb→le _ room (below-at codes few-test tested code h);
+    }
+
+-- the list as it was before the first run, and as it is after them all
+pub filled : (ds : List Run) {l : List ℕ} {t : ℕ} → length ds ≤ room → Stored (replicate (3 * room) 0) 0 ds l t → l ≡ numbers ds ++ replicate (3 * (room - length ds)) 0
+filled ds few s =
+    let n = numbers-length ds in
+    let e : 3 * room - length (numbers ds) ≡ 3 * (room - length ds) = omega arith in
+    s .is ∙ sets-replicate (numbers ds) (3 * room) 0 (omega arith) ∙ rw e
+
+pub runs-by : (code : ℕ) → Known code → {l : List ℕ} {t : ℕ} → Stored (replicate (3 * room) 0) 0 (flatMap (blockRuns (matrixOf code)) (blocks (prototypeOf code))) l t
+    → record { count = t; triples = l } ≡ runsOf code
+runs-by code h {l} {t} s =
+    let ds = flatMap (blockRuns (matrixOf code)) (blocks (prototypeOf code)) in
+    let few = fills code h .few in
+    let e = filled ds (omega arith) s in
+    let n : t ≡ length ds = omega (arith, s .count) in
+    rw (runs-known code h, e, n)

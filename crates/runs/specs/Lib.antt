@@ -1,0 +1,4 @@
+pub mod Runs
+pub mod Sound
+pub mod Meets
+pub mod Steps
