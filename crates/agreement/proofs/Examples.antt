@@ -27,9 +27,9 @@ use Rattle.min_sum.specs.Outcomes.{left, decodeAnswer, decodeOutcome}
 use Rattle.min_sum.proofs.Answers.{decode-lent}
 use Rattle.min_sum.proofs.Rows.{fine}
 use Rattle.min_sum.proofs.Success.{at-once, steady}
-use Rattle.sheet.specs.Text.{ascii}
+use Rattle.sheet_text.specs.Text.{ascii}
 use Rattle.sheet.specs.Sheet.{flippedText, answerTo, sheetOf}
-use Rattle.sheet.proofs.Examples.{document-read, document-printed}
+use Rattle.sheet_text.proofs.Examples.{document-read, document-printed}
 use Rattle.agreement.specs.Examples.{zeros, Examples}
 use Rattle.agreement.proofs.Zeros.{zero-bits, zero-meets, zero-frame}
 

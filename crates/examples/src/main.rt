@@ -8,7 +8,7 @@ use report::refused;
 
 // Four lines: the answer, success, iterations and all bytes of a buffer.
 fn show(r: Report, output: &[u8]) {
-    let a = sheet::print::print(r.answer, r.success, r.iters, output);
+    let a = sheet_text::print::print(r.answer, r.success, r.iters, output);
     let bytes = a.bytes;
     let len = a.len;
     io::write_all(STDOUT_FILENO, &bytes[..len]);

@@ -14,8 +14,8 @@ use Rattle.report.specs.Report.{ending, Told, told}
 use Rattle.bit_flip.specs.Outcome as flip
 use Rattle.min_sum.specs.Confidence.{i8}
 use Rattle.min_sum.specs.Outcomes as soft
-use Rattle.sheet.specs.declared.print.Answer.{Answer}
-use Rattle.sheet.specs.Printing.{room, answerOf}
+use Rattle.sheet_text.specs.declared.print.Answer.{Answer}
+use Rattle.sheet_text.specs.Printing.{room, answerOf}
 use Rattle.replay.specs.declared.cases.Case.{Case}
 use Rattle.replay.specs.Agreement.{Agrees, softened, Converted, recorded, Compared, bitFlipping, toldFlip, minSum, toldSoft, FlipCompared, SoftCompared}
 

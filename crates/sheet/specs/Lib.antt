@@ -1,4 +1,1 @@
-pub mod Text
-pub mod Reading
-pub mod Printing
 pub mod Sheet

@@ -13,10 +13,10 @@ use Rattle.encoder.specs.Outcomes.{Encoded, copyEncodeOutcome}
 use Rattle.bit_flip.specs.Outcome as flip
 use Rattle.min_sum.specs.Confidence.{i8}
 use Rattle.min_sum.specs.Outcomes as soft
-use Rattle.sheet.specs.declared.read.Op.the-variants.{Encode, Bf, Ms}
-use Rattle.sheet.specs.declared.read.Reading.the-variants.{Malformed}
-use Rattle.sheet.specs.Reading.{Sheet, malformed, sheet, parse, textNumber}
-use Rattle.sheet.specs.Printing.{printed}
+use Rattle.sheet_text.specs.declared.values.Op.the-variants.{Encode, Bf, Ms}
+use Rattle.sheet_text.specs.declared.read.Reading.the-variants.{Malformed}
+use Rattle.sheet_text.specs.Reading.{Sheet, malformed, sheet, parse, textNumber}
+use Rattle.sheet_text.specs.Printing.{printed}
 
 -- "Every accepted call prints all its output bytes .. success or not"; "a refusal prints its number, `success=0`, `iters=0`, `output=`"
 abbrev pub reported : Report → List ℕ → List ℕ

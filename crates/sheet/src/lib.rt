@@ -1,24 +1,21 @@
 // The bench sheet: four lines of text that ask for one operation, and four that answer.
 ghost use mathlib.Core.Path.{_≡_};
-ghost use Rattle.sheet.specs.Printing.{answerOf};
+ghost use Rattle.sheet_text.specs.Printing.{answerOf};
 ghost use Rattle.sheet.specs.Sheet.{sheetOf, answerTo};
-ghost use Rattle.sheet.specs.Reading.{sheet};
+ghost use Rattle.sheet_text.specs.Reading.{sheet};
 
 mod operations;
-pub mod print;
-pub mod read;
-mod values;
 
 use operations::encode_frame;
 use operations::flip_frame;
 use operations::print_report;
 use operations::soft_frame;
-use print::Answer;
-use read::Op;
-use read::Reading;
-use read::read;
 use report::refused;
-use values::hex_bytes;
+use sheet_text::print::Answer;
+use sheet_text::read::Reading;
+use sheet_text::read::read;
+use sheet_text::values::Op;
+use sheet_text::values::hex_bytes;
 
 // The text is no sheet.
 pub const MALFORMED: u8 = 9;

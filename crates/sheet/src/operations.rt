@@ -6,15 +6,15 @@ ghost use lib.IntN.{pos, negsuc};
 ghost use Rattle.encoder.specs.Outcomes.{copyEncodeOutcome};
 ghost use Rattle.bit_flip.specs.Outcome.{outcome};
 ghost use Rattle.min_sum.specs.Outcomes.{toLlrsOutcome};
-ghost use Rattle.sheet.specs.Printing.{most, answerOf};
+ghost use Rattle.sheet_text.specs.Printing.{most, answerOf};
 ghost use Rattle.sheet.specs.Sheet.{reported, encodedText, flippedText, softFrom, encodeSheet, bfSheet, msSheet};
-use crate::print::Answer;
-use crate::print::print;
 use codes::ACCEPTED;
 use codes::params;
 use report::Report;
 use report::finished;
 use report::refused;
+use sheet_text::print::Answer;
+use sheet_text::print::print;
 
 // A refusal prints no output byte.
 pub(crate) fn print_report(r: Report, output: &[u8]) -> Answer

@@ -4,8 +4,8 @@ use Prim.Native.Nat.{ℕ}
 use denote.Ref.{now}
 use lib.ListN.{take}
 use lib.Seq.{length-take-le}
-use Rattle.sheet.specs.Printing.{printed, most}
-use Rattle.sheet.proofs.Writes.{answer-fits}
+use Rattle.sheet_text.specs.Printing.{printed, most}
+use Rattle.sheet_text.proofs.Writes.{answer-fits}
 use borrow.Author.Needs.{needs}
 use Rattle.examples.proofs.show.Statement.{statement}
 use Rattle.examples.proofs.show.Tie as tie

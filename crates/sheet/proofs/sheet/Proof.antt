@@ -4,11 +4,11 @@ use Prim.Native.Nat.{ℕ}
 use native.Mathlib.Omega.{arith}
 use denote.Ref.{now}
 use lib.Seq.{length-take-le}
-use Rattle.sheet.specs.Printing.{answerOf}
-use Rattle.sheet.specs.Reading.{Sheet, sheet}
+use Rattle.sheet_text.specs.Printing.{answerOf}
+use Rattle.sheet_text.specs.Reading.{Sheet, sheet}
 use Rattle.sheet.specs.Sheet.{answerTo}
-use Rattle.sheet.specs.declared.read.Request.{Request}
-use Rattle.sheet.proofs.Parts.{Asked, asked, asked-nothing, digits-hex, digits-few, frame-fits, frame-there}
+use Rattle.sheet_text.specs.declared.read.Request.{Request}
+use Rattle.sheet_text.proofs.Parts.{Asked, asked, asked-nothing, frame-fits, frame-there}
 use borrow.Author.Needs.{needs}
 use Rattle.sheet.proofs.sheet.Statement.{statement}
 use Rattle.sheet.proofs.sheet.Tie as tie
@@ -44,9 +44,7 @@ sheet-spec =
     (λ c. search needs)
     (λ c. omega (arith, asks (c .before .before .before) .inside))
     (λ c. search needs)
-    (λ c κs.
-    let q = c .before .before .before .before .before in
-    (digits-hex (text q) (request q) (asks q), digits-few (text q) (request q) (asks q)))
+    (λ c κs. search needs)
     (λ c.
     let q = c .before .before .before .before .before .before .before in
     frame-fits (text q) (request q) (asks q) (c .before .hex-bytes .ensures))

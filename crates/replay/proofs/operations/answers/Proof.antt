@@ -2,7 +2,7 @@ use mathlib.Core.Path.{sym}
 use denote.Ref.{now}
 use lib.Seq.{length-take-le}
 use Rattle.sheet.specs.Sheet.{sheetOf}
-use Rattle.sheet.proofs.Writes.{answer-fits}
+use Rattle.sheet_text.proofs.Writes.{answer-fits}
 use Rattle.replay.proofs.Agreeing.{agrees-by, answer-text}
 use borrow.Author.Needs.{needs}
 use Rattle.replay.proofs.operations.answers.Statement.{statement}

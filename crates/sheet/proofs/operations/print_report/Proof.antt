@@ -2,7 +2,7 @@ use mathlib.Core.Path.{_∙_}
 use denote.Ref.{now}
 use borrow.Author.Tests.{eq-eqb, ne-eqb}
 use lib.Seq.{take-all}
-use Rattle.sheet.specs.Printing.{most}
+use Rattle.sheet_text.specs.Printing.{most}
 use borrow.Author.Needs.{needs}
 use Rattle.sheet.proofs.operations.print_report.Statement.{statement}
 use Rattle.sheet.proofs.operations.print_report.Tie as tie

@@ -4,7 +4,7 @@ use native.Mathlib.Omega.{arith}
 use denote.Ref.{now}
 use lib.IntN.{pos}
 use Rattle.codes.specs.declared.ParamsAnswer.{ParamsAnswer}
-use Rattle.sheet.specs.Printing.{answerOf}
+use Rattle.sheet_text.specs.Printing.{answerOf}
 use Rattle.sheet.proofs.Answers.{soft-lent}
 use Rattle.maths.proofs.Slices.{replicate-front-length}
 use Rattle.sheet.proofs.Rooms.{llrs-room, output-room, soft-room, signs-room}

@@ -1,6 +1,6 @@
 use mathlib.Core.Path.{ap, _∙_}
 use denote.Ref.{now}
-use Rattle.sheet.specs.Printing.{answerOf}
+use Rattle.sheet_text.specs.Printing.{answerOf}
 use Rattle.sheet.proofs.Answers.{soft-refused, soft-accepted}
 use borrow.Author.Needs.{needs}
 use Rattle.sheet.proofs.operations.soft_into.Statement.{statement}

@@ -1,0 +1,138 @@
+-- Pairs of hex digits. Assumes nothing.
+use mathlib.Core.Bool.{true, false}
+use mathlib.Core.List.{List, [], _∷_}
+use mathlib.Core.Path.{_≡_, refl, _∙_}
+use Prim.Native.Nat.{ℕ, zero, suc, _+_, _-_, _*_, _/_, _%_, _≤_, _<_}
+use native.Mathlib.Omega.{arith}
+use borrow.Author.Tests.{eqb-true, eq-eqb, ne-eqb, ltb-true, lt-ltb, le-leb, lt-leb}
+use lib.Dec.{eqb, ltb→lt}
+use lib.ListN.{length, getD, take, drop, length-drop}
+use lib.Seq.{sets, length-take-le}
+use Rattle.maths.specs.Tests.{all}
+use Rattle.maths.specs.Bytes.{Bytes}
+use Rattle.maths.proofs.Tests.{both-first, both-second, all-at, true-T}
+use Rattle.sheet_text.specs.declared.values.Op.{Op}
+use Rattle.sheet_text.specs.declared.read.Reading.the-variants.{Asks}
+use Rattle.sheet_text.specs.Text.{hex}
+use Rattle.sheet_text.specs.Reading.{valueOf, hexDigit, hexText, unhex, sheet, placed, unhexed}
+use Rattle.sheet_text.proofs.Glyphs.{value-glyph, glyph-value, plain, plain-glyph}
+
+pub hex-even : (v : List ℕ) → hexText v ≡ true → length v % 2 ≡ 0
+unfolding hexText
+hex-even v e = eqb-true (length v % 2) 0 (both-first (eqb (length v % 2) 0) (all hexDigit v) e)
+
+pub hex-low : (v : List ℕ) (i : ℕ) → hexText v ≡ true → i < length v → valueOf (getD v i 0) < 16
+unfolding hexText
+hex-low v i e h =
+    ltb→lt (valueOf (getD v i 0)) 16 (all-at hexDigit 0 v (true-T _ (both-second (eqb (length v % 2) 0) (all hexDigit v) e)) i h)
+
+pub unhex-length : (v : List ℕ) → length v % 2 ≡ 0 → 2 * length (unhex v) ≡ length v
+unfolding unhex
+unhex-length [] e = refl
+unhex-length (a ∷ []) e = absurd (omega arith)
+unhex-length (a ∷ b ∷ s) e = omega (arith, unhex-length s (omega arith))
+
+-- the digits that stand between two places
+pub digits-length : (s : List ℕ) (from to : ℕ) → from ≤ to → to < length s → hexText (take (to - from) (drop from s)) ≡ true
+    → 2 * length (unhex (take (to - from) (drop from s))) ≡ to - from
+digits-length s from to g h e =
+    let v = take (to - from) (drop from s) in
+    let n : length v ≡ to - from = length-take-le (to - from) (drop from s) (omega (arith, length-drop from s)) in
+    omega (arith, unhex-length v (hex-even v e))
+
+-- whether the text ends with the newline at a place
+module _ (s : List ℕ) (to : ℕ) where
+  pub more-left : to < length s → (to + 1 ≡ length s → ⊥) → eqb (length (drop (to + 1) s)) 0 ≡ false
+  more-left h n = ne-eqb (length (drop (to + 1) s)) 0 (λ e. n (omega (arith, length-drop (to + 1) s)))
+
+  pub none-left : to + 1 ≡ length s → eqb (length (drop (to + 1) s)) 0 ≡ true
+  none-left e = eq-eqb (length (drop (to + 1) s)) 0 (omega (arith, length-drop (to + 1) s))
+
+  -- the frame's digits stand before it
+  pub frame-placed : (from code : ℕ) (op : Op) (maxiters : ℕ) → from ≤ to → to + 1 ≡ length s → hexText (take (to - from) (drop from s)) ≡ true
+      → Asks (record { code = code; op = op; maxiters = maxiters; start = from; digits = to - from })
+      ≡ placed (length s) (sheet code op maxiters (unhex (take (to - from) (drop from s))))
+  frame-placed from code op maxiters g e t =
+      let n = digits-length s from to g (omega arith) t in
+      let f : length s - 1 - (to - from) ≡ from = omega arith in
+      rw (n, f)
+
+-- ---- what is read was spelled, and what is spelled is read
+all-yes : (a b : ℕ) (s : List ℕ) → all hexDigit (a ∷ b ∷ s) ≡ true → (valueOf a < 16) × ((valueOf b < 16) × (all hexDigit s ≡ true))
+all-yes a b s e =
+    let t = both-second (hexDigit a) (all hexDigit (b ∷ s)) e in (
+      ltb-true (valueOf a) 16 (both-first (hexDigit a) (all hexDigit (b ∷ s)) e),
+      (ltb-true (valueOf b) 16 (both-first (hexDigit b) (all hexDigit s) t), both-second (hexDigit b) (all hexDigit s) t),
+    )
+
+pairs-spelled : (v : List ℕ) → length v % 2 ≡ 0 → all hexDigit v ≡ true → v ≡ hex (unhex v)
+unfolding hex unhex
+pairs-spelled [] e t = refl
+pairs-spelled (a ∷ []) e t = absurd (omega arith)
+pairs-spelled (a ∷ b ∷ s) e t =
+    let d = all-yes a b s t in
+    let q : (16 * valueOf a + valueOf b) / 16 ≡ valueOf a = omega (arith, d .1 .0) in
+    let r : (16 * valueOf a + valueOf b) % 16 ≡ valueOf b = omega (arith, d .1 .0) in
+    rw (q, r, glyph-value a (d .0), glyph-value b (d .1 .0), ← pairs-spelled s (omega arith) (d .1 .1))
+
+pairs-bytes : (v : List ℕ) → length v % 2 ≡ 0 → all hexDigit v ≡ true → Bytes (unhex v)
+unfolding unhex
+pairs-bytes [] e t i h = absurd (omega arith)
+pairs-bytes (a ∷ []) e t i h = absurd (omega arith)
+pairs-bytes (a ∷ b ∷ s) e t zero h = let d = all-yes a b s t in omega (arith, d .0, d .1 .0)
+pairs-bytes (a ∷ b ∷ s) e t (suc i) h = pairs-bytes s (omega arith) (all-yes a b s t .1 .1) i (omega arith)
+
+pub hex-spelled : (v : List ℕ) → hexText v ≡ true → (v ≡ hex (unhex v)) × Bytes (unhex v)
+unfolding hexText
+hex-spelled v e =
+    let n = eqb-true (length v % 2) 0 (both-first (eqb (length v % 2) 0) (all hexDigit v) e) in
+    let t = both-second (eqb (length v % 2) 0) (all hexDigit v) e in
+    (pairs-spelled v n t, pairs-bytes v n t)
+
+bytes-tail : (b : ℕ) (f : List ℕ) → Bytes (b ∷ f) → Bytes f
+bytes-tail b f h i l = h (suc i) (omega arith)
+
+pub hex-length : (f : List ℕ) → length (hex f) ≡ 2 * length f
+unfolding hex
+hex-length [] = refl
+hex-length (b ∷ f) = omega (arith, hex-length f)
+
+pub hex-digits : (f : List ℕ) → Bytes f → all hexDigit (hex f) ≡ true
+unfolding hex
+hex-digits [] h = refl
+hex-digits (b ∷ f) h =
+    let l = h 0 (omega arith) in
+    rw (value-glyph (b / 16) (omega arith), value-glyph (b % 16) (omega arith), lt-ltb (b / 16) 16 (omega arith), lt-ltb (b % 16) 16 (omega arith))
+    (hex-digits f (bytes-tail b f h))
+
+pub hex-read : (f : List ℕ) → Bytes f → hexText (hex f) ≡ true
+unfolding hexText
+hex-read f h =
+    let e : length (hex f) % 2 ≡ 0 = omega (arith, hex-length f) in
+    rw (eq-eqb (length (hex f) % 2) 0 e) (hex-digits f h)
+
+pub unhex-hex : (f : List ℕ) → Bytes f → unhex (hex f) ≡ f
+unfolding unhex hex
+unhex-hex [] h = refl
+unhex-hex (b ∷ f) h =
+    let l = h 0 (omega arith) in
+    let e : 16 * (b / 16) + b % 16 ≡ b = omega arith in
+    rw (value-glyph (b / 16) (omega arith), value-glyph (b % 16) (omega arith), e, unhex-hex f (bytes-tail b f h))
+
+pub hex-plain : (f : List ℕ) → Bytes f → all plain (hex f) ≡ true
+unfolding hex
+hex-plain [] h = refl
+hex-plain (b ∷ f) h =
+    let l = h 0 (omega arith) in
+    rw (plain-glyph (b / 16) (omega arith), plain-glyph (b % 16) (omega arith)) (hex-plain f (bytes-tail b f h))
+
+-- ---- bytes at the front of a buffer
+module _ (v out : List ℕ) where
+  pub unhexed-no : hexText v ≡ false → out ≡ unhexed v out
+  unhexed-no h = rw h
+
+  pub unhexed-long : hexText v ≡ true → length out < length v / 2 → out ≡ unhexed v out
+  unhexed-long h l = rw (h, lt-leb _ _ l)
+
+  pub unhexed-is : {out′ : List ℕ} → hexText v ≡ true → length v / 2 ≤ length out → out′ ≡ sets out 0 (unhex v) → out′ ≡ unhexed v out
+  unhexed-is h l e = e ∙ rw (h, le-leb _ _ l)

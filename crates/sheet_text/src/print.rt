@@ -1,0 +1,90 @@
+// Printing an answer: four lines, each a key, a value and a newline.
+ghost use mathlib.Core.Path.{_≡_};
+ghost use Prim.Native.Nat.{_+_, _*_, _<_, _≤_};
+ghost use lib.ListN.{length, take};
+ghost use Rattle.sheet_text.specs.Text.{glyph, decimal, hex, line};
+ghost use Rattle.sheet_text.specs.Printing.{printed, most, room, answerOf, Written};
+
+// The most output bytes that are printed: no output of the library is longer.
+const MOST: usize = 1280;
+
+// The first len bytes are the text.
+pub struct Answer {
+    pub len: usize,
+    pub bytes: [u8; 2720],
+}
+
+fn glyph_of(d: u8) -> u8
+    requires { ⌜ d < 16 ⌝ }
+    ensures { λ r. ⌜ r ≡ glyph d ⌝ }
+{
+    if d < 10 { b'0' + d } else { b'a' + (d - 10) }
+}
+
+fn put_word(bytes: &mut [u8; 2720], at: usize, word: &[u8]) -> usize
+    requires { ⌜ at + length (now word) ≤ room ⌝ }
+    ensures { λ r. ⌜ Written (now (bytes .entry)) at (now (word .entry)) (now (bytes .exit)) r ⌝ }
+{
+    for i in 0..word.len() {
+        bytes[at + i] = word[i];
+    }
+    at + word.len()
+}
+
+fn put_decimal(bytes: &mut [u8; 2720], at: usize, n: usize) -> usize
+    requires { ⌜ at + length (decimal n) ≤ room ⌝ }
+    ensures { λ r. ⌜ Written (now (bytes .entry)) at (decimal n) (now (bytes .exit)) r ⌝ }
+{
+    if n < 10 {
+        bytes[at] = glyph_of(n as u8);
+        return at + 1;
+    }
+    let t = put_decimal(bytes, at, n / 10);
+    bytes[t] = glyph_of((n % 10) as u8);
+    t + 1
+}
+
+fn put_hex(bytes: &mut [u8; 2720], at: usize, s: &[u8]) -> usize
+    requires { ⌜ at + 2 * length (now s) ≤ room ⌝ }
+    ensures { λ r. ⌜ Written (now (bytes .entry)) at (hex (now (s .entry))) (now (bytes .exit)) r ⌝ }
+{
+    for i in 0..s.len() {
+        let b = s[i];
+        bytes[at + 2 * i] = glyph_of(b / 16);
+        bytes[at + 2 * i + 1] = glyph_of(b % 16);
+    }
+    at + 2 * s.len()
+}
+
+fn number_line(bytes: &mut [u8; 2720], at: usize, key: &[u8], n: usize) -> usize
+    requires { ⌜ at + length (line (now key) (decimal n)) ≤ room ⌝ }
+    ensures { λ r. ⌜ Written (now (bytes .entry)) at (line (now (key .entry)) (decimal n)) (now (bytes .exit)) r ⌝ }
+{
+    let t = put_word(bytes, at, key);
+    let u = put_decimal(bytes, t, n);
+    put_word(bytes, u, b"\n")
+}
+
+fn print_all(answer: u8, success: bool, iters: usize, output: &[u8]) -> Answer
+    requires { ⌜ length (now output) ≤ most ⌝ }
+    ensures { λ r. ⌜ r ≡ answerOf (printed answer success iters (now (output .entry))) ⌝ }
+{
+    let mut bytes = [0u8; 2720];
+    let t = number_line(&mut bytes, 0, b"answer=", answer as usize);
+    let u = number_line(&mut bytes, t, b"success=", success as usize);
+    let v = number_line(&mut bytes, u, b"iters=", iters);
+    let w = put_word(&mut bytes, v, b"output=");
+    let x = put_hex(&mut bytes, w, output);
+    let len = put_word(&mut bytes, x, b"\n");
+    Answer { len, bytes }
+}
+
+// The text of an answer; of an output that is too long, its first bytes.
+pub fn print(answer: u8, success: bool, iters: usize, output: &[u8]) -> Answer
+    ensures { λ r. ⌜ r ≡ answerOf (printed answer success iters (take most (now (output .entry)))) ⌝ }
+{
+    if output.len() > MOST {
+        return print_all(answer, success, iters, &output[..MOST]);
+    }
+    print_all(answer, success, iters, output)
+}
