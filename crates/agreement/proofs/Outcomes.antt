@@ -2,7 +2,7 @@
 use mathlib.Core.Bool.{Bool}
 use mathlib.Core.List.{List}
 use mathlib.Core.Path.{_≡_, sym, ap, _∙_}
-use Prim.Native.Nat.{ℕ}
+use Prim.Native.Nat.{ℕ, _<_}
 use lib.IntN.{ℤ, pos, negsuc}
 use lib.ListN.{length, getD, take, replicate}
 use Rattle.maths.specs.Lists.{largestOf}
@@ -16,7 +16,11 @@ use Rattle.codes.specs.declared.«parity_iter».Bit.{Bit}
 use Rattle.runs.specs.declared.Runs.{Runs}
 use Rattle.runs.specs.declared.EdgeRun.{EdgeRun}
 use Rattle.runs.specs.declared.meets.Met.{Met}
-use Rattle.codes.specs.Codes.{paramsOf}
+use Rattle.codes.specs.declared.«parity_iter».Place.{Place}
+use Rattle.codes.specs.declared.«parity_iter».Found.{Found}
+use Rattle.codes.specs.declared.«parity_iter».Block.{Block}
+use Rattle.codes.specs.Codes.{paramsOf, prototypeOf, phiOf}
+use Rattle.codes.specs.Blocks.{blockOf, blocks, headOf, nextBlock}
 use Rattle.codes.specs.Walk.{remaining, begunOf, stepOf, after}
 use Rattle.runs.specs.Runs.{Run, run, runs, runsOf, readRuns, within, laid}
 use Rattle.codes.specs.Equations.{wordOf}
@@ -30,7 +34,7 @@ use Rattle.min_sum.specs.Outcomes.{Outcome, left, decodeOutcome, Written, writt
 use Rattle.labrador_ldpc.specs.Doors.{Row, row, paramsOutcome, Hard, hard, hardDoor, Soft, soft, softDoor}
 use Rattle.sheet_text.specs.declared.read.Reading.{Reading}
 use Rattle.sheet_text.specs.declared.print.Answer.{Answer}
-use Rattle.sheet_text.specs.Reading.{readOf, textNumber, readAnswer}
+use Rattle.sheet_text.specs.Reading.{unhexed, readOf, textNumber, readAnswer}
 use Rattle.sheet_text.specs.Printing.{printed, most, answerOf}
 use Rattle.sheet.specs.Sheet.{sheetOf}
 use Rattle.measure.specs.Sum.{sumOf}
@@ -55,6 +59,27 @@ clear-one s = one
 -- ---- codes
 pub params-one : (code : ℕ) {x y : ParamsAnswer} → x ≡ paramsOf code → y ≡ paramsOf code → x ≡ y
 params-one code = one
+
+pub prototype-of-one : (code : ℕ) {x y : List (List (List ℕ))} → x ≡ prototypeOf code → y ≡ prototypeOf code → x ≡ y
+prototype-of-one code = one
+
+pub phi-of-one : (code : ℕ) {x y : List (List ℕ)} → x ≡ phiOf code → y ≡ phiOf code → x ≡ y
+phi-of-one code = one
+
+pub block-of-one : (byte : ℕ) {x y : Block} → x ≡ blockOf byte → y ≡ blockOf byte → x ≡ y
+block-of-one byte = one
+
+pub first-block-one : (h : List (List (List ℕ))) {x y : Found} → x ≡ headOf (blocks h) → y ≡ headOf (blocks h) → x ≡ y
+first-block-one h = one
+
+pub next-block-one : (h : List (List (List ℕ))) (p : Place) {x y : Found} → x ≡ nextBlock h p → y ≡ nextBlock h p → x ≡ y
+next-block-one h p = one
+
+pub byte-one : (b : ℕ) {x y : ℕ} → (x ≡ b) × (x < 256) → (y ≡ b) × (y < 256) → x ≡ y
+byte-one b p q = one (p .0) (q .0)
+
+pub wide-one : (b : ℕ) {x y : ℕ} → (x ≡ b) × (x < 65536) → (y ≡ b) × (y < 65536) → x ≡ y
+wide-one b p q = one (p .0) (q .0)
 
 pub iter-paritychecks-one : (code : ℕ) {x y : Begun} → x ≡ begunOf code → y ≡ begunOf code → x ≡ y
 iter-paritychecks-one code = one
@@ -189,6 +214,9 @@ ldpc-llrs-to-hard-i8-one = llrs-to-hard-i8-one
 -- ---- sheet
 pub read-one : (text : List ℕ) {x y : Reading} → (x ≡ readOf text) × (textNumber x ≡ readAnswer text) → (y ≡ readOf text) × (textNumber y ≡ readAnswer text) → x ≡ y
 read-one text p q = one (p .0) (q .0)
+
+pub hex-bytes-one : (digits out : List ℕ) {x y : List ℕ} → x ≡ unhexed digits out → y ≡ unhexed digits out → x ≡ y
+hex-bytes-one digits out = one
 
 pub print-one : (answer : ℕ) (success : Bool) (iters : ℕ) (output : List ℕ) {x y : Answer}
     → x ≡ answerOf (printed answer success iters (take most output)) → y ≡ answerOf (printed answer success iters (take most output)) → x ≡ y

@@ -1,21 +1,20 @@
 -- What an encoder that accepts leaves is the frame of its message: `encode` and `copy_encode` meet the demands, and so does what is sent. Assumes nothing.
-use mathlib.Core.Bool.{Bool, true, false, not}
+use mathlib.Core.Bool.{not}
 use mathlib.Core.List.{List}
 use mathlib.Core.Path.{_≡_, refl, sym, ap, _∙_, subst}
-use Prim.Native.Nat.{ℕ, suc, _/_, _≤_, _<_}
+use Prim.Native.Nat.{ℕ, _/_, _≤_, _<_}
 use native.Mathlib.Omega.{arith}
-use borrow.Author.Tests.{ltb-true, eqb-true, eq-eqb, not-false}
-use lib.Dec.{eqb, ltb}
+use borrow.Author.Tests.{eq-eqb}
 use lib.ListN.{length, take}
 use lib.Seq.{length-take-le}
-use Rattle.maths.specs.Tests.{pick}
 use Rattle.maths.specs.Bits.{bitAt}
 use Rattle.maths.specs.Bytes.{Bytes}
 use Rattle.maths.proofs.Bytes.{bytes-take}
 use Rattle.codes.specs.Answers.{unlike}
-use Rattle.codes.specs.Codes.{codes, Known, known, TC, TM, rowOf}
+use Rattle.codes.specs.Codes.{Known, known, TC, TM, rowOf}
 use Rattle.codes.specs.Equations.{Meets}
 use Rattle.codes.specs.Frames.{frameOf, encodedBytes}
+use Rattle.codes.proofs.Answers.{passed, passed-known, passed-length}
 use Rattle.matrices.proofs.Sizes.{sizes}
 use Rattle.matrices.proofs.Encoded.{encoded-meets, encoded-length, encoded-bytes, encoded-bits}
 use Rattle.telemetry.specs.Completion.{completionBytes, Completes}
@@ -24,17 +23,6 @@ use Rattle.encoder.specs.Outcomes.{Encoded, encoded, encodeOutcome, copyEncodeO
 use Rattle.agreement.specs.Parties.{Sent, by-encode, by-copy-encode}
 use Rattle.agreement.specs.Demands.{EncodesByTable, EncodesData, FrameMeets}
 use Rattle.agreement.specs.Ours.{encoder, encoding, copyEncoder, copyEncoding}
-
--- ---- accepted calls: no test fails
-passed : (fails : Bool) (n : ℕ) {rest : ℕ} → pick fails (suc n) rest ≡ 0 → (fails ≡ false) × (rest ≡ 0)
-passed true n e = absurd (omega arith)
-passed false n e = (refl, e)
-
-passed-known : (code : ℕ) → not (known code) ≡ false → Known code
-passed-known code e = ltb-true code codes (not-false (ltb code codes) e)
-
-passed-length : (have want : ℕ) → unlike have want ≡ false → have ≡ want
-passed-length have want e = eqb-true have want (not-false (eqb have want) e)
 
 -- ---- the frame of a message
 pub record Frames (code : ℕ) (message frame : List ℕ) : Type 0 where

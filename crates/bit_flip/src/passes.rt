@@ -12,6 +12,7 @@ ghost use Rattle.bit_flip.specs.Flip.{flipped, passes};
 ghost use Rattle.bit_flip.specs.Steps.{twice, give, flipByte, Light, Bits};
 use codes::parity_iter::Bit;
 use codes::parity_iter::Check;
+use report::Ended;
 use runs::lies_within;
 use runs::meets::syndrome;
 use runs::run_at;
@@ -68,12 +69,6 @@ fn flip_pass(triples: &[u16], checks: &[u8], bits: &mut [u8])
     give_runs(triples, checks, bits);
     let top = bits::largest(bits) / 2;
     flip_bytes(bits, top);
-}
-
-// How the main passes ended: with success or not, and the number of the pass that found no broken check, or of all passes.
-pub(crate) struct Ended {
-    pub success: bool,
-    pub iters: usize,
 }
 
 pub(crate) fn run_passes(

@@ -25,11 +25,10 @@ use codes::WRONG_WORKING;
 use codes::WRONG_WRITTEN;
 use codes::params;
 use llrs::pack;
-use min_sum::Found;
 use min_sum::Layout;
-use min_sum::clear;
 use min_sum::fill;
 use min_sum::run_passes;
+use report::Ended;
 use report::Report;
 use report::finished;
 use report::refused;
@@ -87,13 +86,13 @@ fn decode_runs(
     output: &mut [u8],
     working: &mut [i8],
     maxiters: usize,
-) -> Found
+) -> Ended
     requires { ⌜ Sized at (length (now working)) (length (now marks)) × (Ready at (readRuns (now runs)) (length (now llrs)) × (8 * length (now output) ≡ at .bits)) ⌝ }
     ensures { λ r. ⌜ left (ending (r .success) (r .iters)) (now (output .exit)) (now (working .exit)) [] ≡ finishedAs i8 (ranOver i8 (flatMap runEdges (readRuns (now (runs .entry)))) (at .checks) (at .bits - length (now (llrs .entry))) (now (llrs .entry)) maxiters) (length (now (working .entry))) 0 ⌝ }
 {
     let sums = 2 * at.edges;
     let minima = sums + at.bits;
-    clear(marks);
+    bits::clear(marks);
     fill(working, 0);
     let found = run_passes(working, marks, llrs, at, runs, maxiters);
     pack(output, &working[sums..minima]);
@@ -110,7 +109,7 @@ fn decode(
     working: &mut [i8],
     working_u8: &mut [u8],
     maxiters: usize,
-) -> Found
+) -> Ended
     requires { ⌜ Lent code row (length (now llrs)) (length (now output)) (length (now working)) ⌝ }
     ensures { λ r. ⌜ left (ending (r .success) (r .iters)) (now (output .exit)) (now (working .exit)) (now («working_u8» .exit)) ≡ finishedAs i8 (decoded i8 code (now (llrs .entry)) maxiters) (length (now (working .entry))) (length (now («working_u8» .entry))) ⌝ }
 {
@@ -120,7 +119,7 @@ fn decode(
     let triples = runs.triples;
     let used = 3 * runs.count;
     let mut marks = [0u8; 1536];
-    clear(working_u8);
+    bits::clear(working_u8);
     decode_runs(
         &mut marks[..checks],
         &triples[..used],
@@ -132,7 +131,12 @@ fn decode(
     )
 }
 
-// Min-sum on confidences of 8 bits, at most maxiters passes.
+// Min-sum on confidences of 8 bits, at most maxiters passes: slower than bit flipping, with more memory, and better where the receiver knows
+// how sure it is of a bit. A confidence is above 0 for a bit 0 and below 0 for a bit 1, the larger the surer, on a logarithmic scale.
+//
+// Until a sum is cut only their ratios matter, so any scale will do; but messages are added up in 8 bits too, and what passes 127 or -128 stays
+// there. Leave room for some of them: with confidences of -32 to 31 several can be added before a sum is cut. Bits without confidences do with 1 and -1,
+// as hard_to_llrs_i8 gives them.
 pub fn decode_ms_i8(
     code: usize,
     llrs: &[i8],

@@ -21,6 +21,8 @@ use crate::soft::new_v;
 use crate::soft::saturating_add;
 use codes::parity_iter::Bit;
 use codes::parity_iter::Check;
+use codes::parity_iter::wide;
+use report::Ended;
 
 // How the working buffer is laid out: u and then v, an element for each edge; the marginals, one for each bit; the first minima
 // and then the second, one for each check.
@@ -114,12 +116,6 @@ fn take_run(
     }
 }
 
-fn wide(x: u16) -> usize
-    ensures { λ r. ⌜ r ≡ x ⌝ }
-{
-    x as usize
-}
-
 // All edges, from the numbers of their runs.
 fn add_runs(w: &mut [i8], marks: &[u8], at: Layout, runs: &[u16])
     requires { ⌜ Sized at (length (now w)) (length (now marks)) × Rest at 0 (readRuns (now runs)) ⌝ }
@@ -156,14 +152,6 @@ pub(crate) fn fill(w: &mut [i8], x: i8)
 {
     for i in 0..w.len() {
         w[i] = x;
-    }
-}
-
-pub(crate) fn clear(s: &mut [u8])
-    ensures { λ _. ⌜ now (s .exit) ≡ replicate (length (now (s .entry))) 0 ⌝ }
-{
-    for i in 0..s.len() {
-        s[i] = 0;
     }
 }
 
@@ -221,15 +209,9 @@ fn one_pass(w: &mut [i8], marks: &mut [u8], llrs: &[i8], at: Layout, runs: &[u16
     fill_part(w, sums + llrs.len(), minima, 0);
     add_runs(w, marks, at, runs);
     fill_part(w, minima, minima + 2 * at.checks, 127);
-    clear(marks);
+    bits::clear(marks);
     take_runs(w, marks, at, runs);
     all_even(marks)
-}
-
-// Whether a pass succeeded, and its number, or the number of all passes.
-pub struct Found {
-    pub success: bool,
-    pub iters: usize,
 }
 
 pub(crate) fn run_passes(
@@ -239,19 +221,19 @@ pub(crate) fn run_passes(
     at: Layout,
     runs: &[u16],
     maxiters: usize,
-) -> Found
+) -> Ended
     requires { ⌜ Sized at (length (now w)) (length (now marks)) × Ready at (readRuns (now runs)) (length (now llrs)) ⌝ }
     ensures { λ r. ⌜ end (r .success) (r .iters) (held at (now (w .exit)) (now (marks .exit))) ≡ run (turn i8 (flatMap runEdges (readRuns (now (runs .entry)))) (at .checks) (at .bits - length (now (llrs .entry))) (now (llrs .entry))) maxiters 0 (held at (now (w .entry)) (now (marks .entry))) ⌝ }
 {
     for pass in 0..maxiters {
         if one_pass(w, marks, llrs, at, runs) {
-            return Found {
+            return Ended {
                 success: true,
                 iters: pass,
             };
         }
     }
-    Found {
+    Ended {
         success: false,
         iters: maxiters,
     }

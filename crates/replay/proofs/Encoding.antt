@@ -1,25 +1,19 @@
 -- A frame that was encoded is encoded again to itself, and what the tests of both encoders tell. Assumes nothing.
 use mathlib.Core.Bool.{Bool, true, false, not}
 use mathlib.Core.List.{List}
-use mathlib.Core.Path.{_≡_, refl, sym, ap, _∙_}
-use Prim.Native.Nat.{ℕ, suc, _/_}
-use native.Mathlib.Omega.{arith}
-use borrow.Author.Tests.{ltb-true, eqb-true, eq-eqb, not-false}
-use lib.Dec.{eqb, ltb}
+use mathlib.Core.Path.{_≡_, sym, ap, _∙_}
+use Prim.Native.Nat.{ℕ, _/_}
+use borrow.Author.Tests.{eq-eqb}
 use lib.ListN.{length, take}
-use Rattle.maths.specs.Tests.{pick}
 use Rattle.codes.specs.Answers.{unlike}
-use Rattle.codes.specs.Codes.{codes, Known, known, rowOf}
+use Rattle.codes.specs.Codes.{Known, known, rowOf}
 use Rattle.codes.specs.Frames.{encodedBytes}
+use Rattle.codes.proofs.Answers.{passed, passed-known, passed-length}
 use Rattle.matrices.proofs.Encoded.{encoded-front, encoded-length}
 use Rattle.encoder.specs.Outcomes.{Encoded, encoded, encodeOutcome, copyEncodeOutcome}
 use Rattle.encoder.proofs.Answered.{encode-done}
 use Rattle.replay.specs.Agreement.{EncodeCompared}
 use Rattle.replay.proofs.Agreeing.{never, denies}
-
-passed : (fails : Bool) (n : ℕ) {rest : ℕ} → pick fails (suc n) rest ≡ 0 → (fails ≡ false) × (rest ≡ 0)
-passed true n e = absurd (omega arith)
-passed false n e = (refl, e)
 
 module _ (code : ℕ) (m s : List ℕ) where
   abbrev first : Encoded
@@ -29,8 +23,8 @@ module _ (code : ℕ) (m s : List ℕ) where
   twice z =
       let t₁ = passed (not (known code)) 0 z in
       let t₂ = passed (unlike (length m) (rowOf code .k / 8)) 1 (t₁ .1) in
-      let h : Known code = ltb-true code codes (not-false (ltb code codes) (t₁ .0)) in
-      let long : length m ≡ rowOf code .k / 8 = eqb-true _ _ (not-false (eqb (length m) (rowOf code .k / 8)) (t₂ .0)) in
+      let h : Known code = passed-known code (t₁ .0) in
+      let long : length m ≡ rowOf code .k / 8 = passed-length (length m) (rowOf code .k / 8) (t₂ .0) in
       let is : first .codeword ≡ encodedBytes code m = rw (eq-eqb _ 0 z) in
       sym (encode-done code (first .codeword) h (ap length is ∙ encoded-length code h m long)
       (is ∙ ap (encodedBytes code) (sym (ap (take (rowOf code .k / 8)) is ∙ encoded-front code m long))))

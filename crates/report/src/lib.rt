@@ -8,6 +8,12 @@ pub struct Report {
     pub iters: usize,
 }
 
+// How the passes of a decoder ended: with success or not, and the number of the pass that found every equation met, or of all passes.
+pub struct Ended {
+    pub success: bool,
+    pub iters: usize,
+}
+
 // A call that is refused by a number.
 pub fn refused(answer: u8) -> Report
     ensures { λ r. ⌜ r ≡ refusal answer ⌝ }

@@ -49,14 +49,14 @@ add-runs-spec =
     let t = z .before .before .before .before .before .before .before in
     let a = t .before .before .before .args in
     let k = z .before .before .before .before .before .before .loop-test .taken in
-    (rw (t .loop .inv .1) (t .before .before .before .pre .0), turn-inside (a .at) (now (a .runs)) (t .loop .i) (t .loop .e) (t .loop .inv .2) (omega (arith, k)) (z .before .before .before .before .wide .ensures) (z .before .before .wide2 .ensures) (z .wide3 .ensures)))
+    (rw (t .loop .inv .1) (t .before .before .before .pre .0), turn-inside (a .at) (now (a .runs)) (t .loop .i) (t .loop .e) (t .loop .inv .2) (omega (arith, k)) (z .before .before .before .before .wide .ensures .0) (z .before .before .wide2 .ensures .0) (z .wide3 .ensures .0)))
     (λ c.
     let z = c .before .before .before in
     let t = z .before .before .before .before .before .before .before in
     let a = t .before .before .before .args in
     let k = z .before .before .before .before .before .before .loop-test .taken in
     omega
-    (arith, turn-inside (a .at) (now (a .runs)) (t .loop .i) (t .loop .e) (t .loop .inv .2) (omega (arith, k)) (z .before .before .before .before .wide .ensures) (z .before .before .wide2 .ensures) (z .wide3 .ensures) .numbers))
+    (arith, turn-inside (a .at) (now (a .runs)) (t .loop .i) (t .loop .e) (t .loop .inv .2) (omega (arith, k)) (z .before .before .before .before .wide .ensures .0) (z .before .before .wide2 .ensures .0) (z .wide3 .ensures .0) .numbers))
     (λ c. search needs)
     (λ c. search needs)
     (λ c.
@@ -67,10 +67,10 @@ add-runs-spec =
     let k = z .before .before .before .before .before .before .loop-test .taken in (
       omega (arith, k),
       m .add-run .kept .0 ∙ t .loop .inv .1,
-      turn-rest (a .at) (now (a .runs)) (t .loop .i) (t .loop .e) (t .loop .inv .2) (omega (arith, k)) (z .before .before .before .before .wide .ensures)
-          (z .before .before .wide2 .ensures) (z .wide3 .ensures),
-      turn-fold (a .at) (now (a .runs)) (t .loop .i) (t .loop .e) (t .loop .inv .2) (omega (arith, k)) (z .before .before .before .before .wide .ensures)
-          (z .before .before .wide2 .ensures) (z .wide3 .ensures) (addMessage i8) _ (t .loop .inv .3) (m .add-run .ensures),
+      turn-rest (a .at) (now (a .runs)) (t .loop .i) (t .loop .e) (t .loop .inv .2) (omega (arith, k)) (z .before .before .before .before .wide .ensures .0)
+          (z .before .before .wide2 .ensures .0) (z .wide3 .ensures .0),
+      turn-fold (a .at) (now (a .runs)) (t .loop .i) (t .loop .e) (t .loop .inv .2) (omega (arith, k)) (z .before .before .before .before .wide .ensures .0)
+          (z .before .before .wide2 .ensures .0) (z .wide3 .ensures .0) (addMessage i8) _ (t .loop .inv .3) (m .add-run .ensures),
     ))
     (λ c. c .before .loop .inv .1)
     (λ c.

@@ -49,14 +49,14 @@ take-runs-spec =
     let t = z .before .before .before .before .before .before .before in
     let a = t .before .before .before .args in
     let k = z .before .before .before .before .before .before .loop-test .taken in
-    (rw (t .loop .inv .1, t .loop .inv .2) (t .before .before .before .pre .0), turn-inside (a .at) (now (a .runs)) (t .loop .i) (t .loop .e) (t .loop .inv .3) (omega (arith, k)) (z .before .before .before .before .wide .ensures) (z .before .before .wide2 .ensures) (z .wide3 .ensures)))
+    (rw (t .loop .inv .1, t .loop .inv .2) (t .before .before .before .pre .0), turn-inside (a .at) (now (a .runs)) (t .loop .i) (t .loop .e) (t .loop .inv .3) (omega (arith, k)) (z .before .before .before .before .wide .ensures .0) (z .before .before .wide2 .ensures .0) (z .wide3 .ensures .0)))
     (λ c.
     let z = c .before .before .before .before .before .before in
     let t = z .before .before .before .before .before .before .before in
     let a = t .before .before .before .args in
     let k = z .before .before .before .before .before .before .loop-test .taken in
     omega
-    (arith, turn-inside (a .at) (now (a .runs)) (t .loop .i) (t .loop .e) (t .loop .inv .3) (omega (arith, k)) (z .before .before .before .before .wide .ensures) (z .before .before .wide2 .ensures) (z .wide3 .ensures) .numbers))
+    (arith, turn-inside (a .at) (now (a .runs)) (t .loop .i) (t .loop .e) (t .loop .inv .3) (omega (arith, k)) (z .before .before .before .before .wide .ensures .0) (z .before .before .wide2 .ensures .0) (z .wide3 .ensures .0) .numbers))
     (λ c. search needs)
     (λ c. search needs)
     (λ c.
@@ -68,10 +68,10 @@ take-runs-spec =
       omega (arith, k),
       m .take-run .kept .0 ∙ t .loop .inv .1,
       m .take-run .kept .1 .0 ∙ t .loop .inv .2,
-      turn-rest (a .at) (now (a .runs)) (t .loop .i) (t .loop .e) (t .loop .inv .3) (omega (arith, k)) (z .before .before .before .before .wide .ensures)
-          (z .before .before .wide2 .ensures) (z .wide3 .ensures),
-      turn-fold (a .at) (now (a .runs)) (t .loop .i) (t .loop .e) (t .loop .inv .3) (omega (arith, k)) (z .before .before .before .before .wide .ensures)
-          (z .before .before .wide2 .ensures) (z .wide3 .ensures) (takeChecked i8) _ (t .loop .inv .4) (m .take-run .ensures),
+      turn-rest (a .at) (now (a .runs)) (t .loop .i) (t .loop .e) (t .loop .inv .3) (omega (arith, k)) (z .before .before .before .before .wide .ensures .0)
+          (z .before .before .wide2 .ensures .0) (z .wide3 .ensures .0),
+      turn-fold (a .at) (now (a .runs)) (t .loop .i) (t .loop .e) (t .loop .inv .3) (omega (arith, k)) (z .before .before .before .before .wide .ensures .0)
+          (z .before .before .wide2 .ensures .0) (z .wide3 .ensures .0) (takeChecked i8) _ (t .loop .inv .4) (m .take-run .ensures),
     ))
     (λ c. c .before .loop .inv .1)
     (λ c. c .before .loop .inv .2)
