@@ -19,7 +19,7 @@ use Rattle.maths.proofs.Slices.{overwrite-at}
 use Rattle.maths.proofs.Bytes.{bitAt-low, bitAt-past}
 use Rattle.bits.specs.Packed.{wholeBytes, unpacked}
 use Rattle.codes.specs.declared.ParamsAnswer.{ParamsAnswer}
-use Rattle.codes.specs.Codes.{codes, known, rowOf, paramsOf, bitsIn, checksIn}
+use Rattle.codes.specs.Codes.{codes, known, rowOf, paramsOf, bitsIn, checksIn, maxChecks}
 use Rattle.codes.specs.Edges.{Edge, edges}
 use Rattle.runs.specs.Runs.{runs, numbers, laid}
 use Rattle.codes.specs.Equations.{wordOf}
@@ -86,7 +86,7 @@ module _ {code n m i o t : ℕ} (a : Accepted code n m i o t) where
   pub bits-are : t ≡ bitsIn code
   bits-are = a .working-long ∙ roomy code (a .known) .working
 
-  pub checks-few : m ≤ 1536
+  pub checks-few : m ≤ maxChecks
   checks-few = omega (arith, a .checks, roomy code (a .known) .checks)
 
   pub whole-input : 8 * i ≡ n

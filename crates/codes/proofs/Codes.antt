@@ -16,7 +16,7 @@ use Rattle.codes.specs.declared.MatrixTables.{MatrixTables}
 use Rattle.codes.specs.declared.«parity_iter».Block.{Block}
 use Rattle.codes.specs.declared.«parity_iter».Block.the-variants.{Ends, Empty, Identity, Permutation}
 use Rattle.codes.specs.Tables.{prototypes}
-use Rattle.codes.specs.Codes.{codes, Known, known, paramsOf, tcCodes, TC, TM, rows, row, rowOf, bitsIn, checksIn, tables, tablesOf, matrixOf, prototypeOf}
+use Rattle.codes.specs.Codes.{codes, Known, known, paramsOf, tcCodes, TC, TM, rows, row, rowOf, bitsIn, checksIn, tables, tablesOf, matrixOf, prototypeOf, maxBits, maxBlock, maxChecks}
 use Rattle.codes.specs.Blocks.{byteAt, blockOf, cellBlocks, rowBlocks, lastRows}
 use Rattle.codes.specs.Edges.{edgeAt, blockEdges, blocksOf, edges}
 use Rattle.codes.specs.Sound.{Sized, Small, Roomy}
@@ -24,18 +24,18 @@ use Rattle.codes.specs.Sound.{Sized, Small, Roomy}
 size-test : CodeParams → Bool
 size-test r =
     let m = r .«submatrix_size» in
-    both (leb 16 m) (both (leb m 512) (eqb (m % 4) 0))
+    both (leb 16 m) (both (leb m maxBlock) (eqb (m % 4) 0))
 
 pub sized : (code : ℕ) → Known code → Sized (rowOf code .«submatrix_size»)
 unfolding rows size-test
 sized code h =
     let m = rowOf code .«submatrix_size» in
     let a = all-at size-test (row 0 0 0 0 0 0) rows tt code h in
-    let b = both-right (leb 16 m) (both (leb m 512) (eqb (m % 4) 0)) a in
+    let b = both-right (leb 16 m) (both (leb m maxBlock) (eqb (m % 4) 0)) a in
     record {
-      low = leb→le 16 m (both-left (leb 16 m) (both (leb m 512) (eqb (m % 4) 0)) a);
-      high = leb→le m 512 (both-left (leb m 512) (eqb (m % 4) 0) b);
-      four = eqb→eq (m % 4) 0 (both-right (leb m 512) (eqb (m % 4) 0) b);
+      low = leb→le 16 m (both-left (leb 16 m) (both (leb m maxBlock) (eqb (m % 4) 0)) a);
+      high = leb→le m maxBlock (both-left (leb m maxBlock) (eqb (m % 4) 0) b);
+      four = eqb→eq (m % 4) 0 (both-right (leb m maxBlock) (eqb (m % 4) 0) b);
     }
 
 -- the four lengths of a row follow from its other numbers
@@ -61,8 +61,8 @@ pub roomy : (code : ℕ) → Known code → Roomy (rowOf code)
 unfolding rows
 roomy code h =
     record {
-      bits = leb→le (bitsIn code) 5632 (below-at codes (λ c. leb (bitsIn c) 5632) tt code h);
-      checks = leb→le (checksIn code) 1536 (below-at codes (λ c. leb (checksIn c) 1536) tt code h);
+      bits = leb→le (bitsIn code) maxBits (below-at codes (λ c. leb (bitsIn c) maxBits) tt code h);
+      checks = leb→le (checksIn code) maxChecks (below-at codes (λ c. leb (checksIn c) maxChecks) tt code h);
       k-low = leb→le (rowOf code .k) (rowOf code .n) (below-at codes (λ c. leb (rowOf c .k) (rowOf c .n)) tt code h);
       sent = below-eq codes (λ c. 8 * (rowOf c .n / 8)) (λ c. rowOf c .n) tt code h;
       whole = below-eq codes (λ c. 8 * rowOf c .«output_len») bitsIn tt code h;

@@ -20,7 +20,7 @@ use Rattle.codes.specs.declared.«parity_iter».Found.the-variants.{At}
 use Rattle.codes.specs.declared.«parity_iter».Block.{Block}
 use Rattle.codes.specs.declared.«parity_iter».Block.the-variants.{Ends, Empty, Identity, Permutation}
 use Rattle.codes.specs.declared.«parity_iter».Step.{Step}
-use Rattle.codes.specs.Codes.{Known, known, matrixOf, prototypeOf}
+use Rattle.codes.specs.Codes.{Known, known, matrixOf, prototypeOf, codes}
 use Rattle.codes.specs.Blocks.{
   byteAt,
   blockOf,
@@ -119,7 +119,7 @@ module _ (H : List (List (List ℕ))) where
 start-law : (code : ℕ) (ps : List Place) → Known code → Headed (prototypeOf code) ps
     → remaining (startAt code (headOf ps)) ≡ flatMap (blockEdges (matrixOf code)) ps
 unfolding remaining flatMap blockEdges
-start-law code ps h (none e) = rw e (simp (lt-ltb code 7 h))
+start-law code ps h (none e) = rw e (simp (lt-ltb code codes h))
 start-law code ps h (some p d e) =
     let w : ParityIter = startAt code (At p) in
     let m = sized code h .low in

@@ -67,6 +67,31 @@ rowOf code = getD rows code (row 0 0 0 0 0 0)
 abbrev pub paramsOf : ℕ → ParamsAnswer
 paramsOf code = record { answer = firstOf (test (not (known code)) 1 ∷ []); row = rowOf code }
 
+-- no code has larger blocks, more bits sent, more bits in all or more checks, or asks for longer buffers
+abbrev pub maxBlock : ℕ
+maxBlock = 512
+
+abbrev pub maxSent : ℕ
+maxSent = 5120
+
+abbrev pub maxSentBytes : ℕ
+maxSentBytes = 640
+
+abbrev pub maxBits : ℕ
+maxBits = 5632
+
+abbrev pub maxBytes : ℕ
+maxBytes = 704
+
+abbrev pub maxChecks : ℕ
+maxChecks = 1536
+
+abbrev pub maxSoftWorking : ℕ
+maxSoftWorking = 48640
+
+abbrev pub maxSigns : ℕ
+maxSigns = 192
+
 -- the bits of a word with those not sent, and the parity equations
 abbrev pub bitsIn : ℕ → ℕ
 bitsIn code = rowOf code .n + rowOf code .«punctured_bits»

@@ -1,6 +1,7 @@
 -- What the tables of the codes satisfy, as the functions over them ask it. Assumes nothing.
 use mathlib.Core.Path.{_≡_}
 use Prim.Native.Nat.{ℕ, _+_, _-_, _*_, _/_, _%_, _≤_, _<_}
+use Rattle.codes.specs.Codes.{maxBits, maxBlock, maxChecks}
 use Rattle.codes.specs.declared.CodeParams.{CodeParams}
 use Rattle.codes.specs.declared.«parity_iter».Block.{Block}
 use Rattle.codes.specs.declared.«parity_iter».Block.the-variants.{Ends, Empty, Identity, Permutation}
@@ -8,7 +9,7 @@ use Rattle.codes.specs.declared.«parity_iter».Block.the-variants.{Ends
 -- the size of a block: at least 16, at most 512, and a multiple of 4
 pub record Sized (m : ℕ) : Type 0 where
   pub low : 16 ≤ m
-  pub high : m ≤ 512
+  pub high : m ≤ maxBlock
   pub four : m % 4 ≡ 0
 
 -- the value of an identity is below 64, that of a permutation is an index of theta and phi
@@ -20,8 +21,8 @@ Small (Permutation v) = v < 26
 
 -- the bits and checks of a code fit the arrays that are made for them, and its bytes are whole
 pub record Roomy (r : CodeParams) : Type 0 where
-  pub bits : r .n + r .«punctured_bits» ≤ 5632
-  pub checks : r .n + r .«punctured_bits» - r .k ≤ 1536
+  pub bits : r .n + r .«punctured_bits» ≤ maxBits
+  pub checks : r .n + r .«punctured_bits» - r .k ≤ maxChecks
   pub k-low : r .k ≤ r .n
   pub sent : 8 * (r .n / 8) ≡ r .n
   pub whole : 8 * r .«output_len» ≡ r .n + r .«punctured_bits»

@@ -25,10 +25,20 @@ pub const WRONG_SIGNS: u8 = 5;
 // How many codes there are: TC128, TC256, TC512, TM1280, TM1536, TM2048, TM5120, numbered from 0.
 pub const CODES: usize = 7;
 
-// No code has more bits, those not sent included, or more checks.
+// No code has more bits sent, more bits, those not sent included, or more checks, or asks for longer buffers.
+pub const MAX_SENT: usize = 5120;
+
+pub const MAX_SENT_BYTES: usize = 640;
+
 pub const MAX_BITS: usize = 5632;
 
+pub const MAX_BYTES: usize = 704;
+
 pub const MAX_CHECKS: usize = 1536;
+
+pub const MAX_SOFT_WORKING: usize = 48640;
+
+pub const MAX_SIGNS: usize = 192;
 
 pub struct CodeParams {
     // Bits sent.

@@ -2,7 +2,7 @@
 ghost use mathlib.Core.Path.{_≡_};
 ghost use mathlib.Core.List.{[]};
 ghost use Prim.Native.Nat.{_<_, _≤_, _%_};
-ghost use Rattle.codes.specs.Codes.{made};
+ghost use Rattle.codes.specs.Codes.{made, maxBlock};
 ghost use Rattle.codes.specs.Blocks.{blockOf, blocks, cellsFrom, blocksFrom, headOf, nextBlock};
 ghost use Rattle.codes.specs.Edges.{identityColumn, permutationColumn};
 ghost use Rattle.codes.specs.Walk.{Inside, matrix, remaining, startAt, begunOf, nextOf, nextStep, stepOf, after};
@@ -105,14 +105,14 @@ pub fn next_block(h: &[[[u8; 11]; 4]; 3], p: Place) -> Found
 }
 
 fn identity_column(m: usize, v: usize, i: usize) -> usize
-    requires { ⌜ (m ≤ 512) × ((v < 64) × (i < m)) ⌝ }
+    requires { ⌜ (m ≤ maxBlock) × ((v < 64) × (i < m)) ⌝ }
     ensures { λ r. ⌜ r ≡ identityColumn m v i ⌝ }
 {
     (i + v) % m
 }
 
 fn permutation_column(m: usize, theta: &[u8; 26], phi: &[[u16; 26]; 4], v: usize, i: usize) -> usize
-    requires { ⌜ (m ≤ 512) × ((m % 4 ≡ 0) × ((v < 26) × (i < m))) ⌝ }
+    requires { ⌜ (m ≤ maxBlock) × ((m % 4 ≡ 0) × ((v < 26) × (i < m))) ⌝ }
     ensures { λ r. ⌜ r ≡ permutationColumn (made m (now (theta .entry)) (now (phi .entry)) []) v i ⌝ }
 {
     let q = m / 4;
@@ -218,7 +218,7 @@ impl ParityIter {
 
     // The edge of this walk, in column x of its block.
     fn edge(self, m: usize, x: usize) -> Step
-        requires { ⌜ Inside self × ((m ≡ matrix self .size) × (x < 512)) ⌝ }
+        requires { ⌜ Inside self × ((m ≡ matrix self .size) × (x < maxBlock)) ⌝ }
         ensures { λ r. ⌜ r ≡ nextStep self x ⌝ }
     {
         Step::Next(

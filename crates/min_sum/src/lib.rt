@@ -18,6 +18,7 @@ mod soft;
 use codes::ACCEPTED;
 use codes::CODES;
 use codes::CodeParams;
+use codes::MAX_CHECKS;
 use codes::UNKNOWN_CODE;
 use codes::WRONG_READ;
 use codes::WRONG_SIGNS;
@@ -118,7 +119,7 @@ fn decode(
     let runs = runs_of(code);
     let triples = runs.triples;
     let used = 3 * runs.count;
-    let mut marks = [0u8; 1536];
+    let mut marks = [0u8; MAX_CHECKS];
     bits::clear(working_u8);
     decode_runs(
         &mut marks[..checks],

@@ -12,6 +12,7 @@ use cases::read_len;
 use cases::wide;
 use cases::written_len;
 use codes::CodeParams;
+use codes::MAX_SENT;
 use codes::params;
 use libc::STDOUT_FILENO;
 use operations::answers;
@@ -50,11 +51,11 @@ fn run_case(
 
 fn agrees(fd: i32, c: Case) -> bool {
     let mut read = [0u8; 8193];
-    let mut want = [0u8; 5120];
-    let mut output = [0u8; 5120];
+    let mut want = [0u8; MAX_SENT];
+    let mut output = [0u8; MAX_SENT];
     let row = params(c.code).row;
     let r = least(read_len(c, row), 8193);
-    let w = least(written_len(c, row), 5120);
+    let w = least(written_len(c, row), MAX_SENT);
     run_case(fd, c, row, &mut read[..r], &mut want[..w], &mut output[..w])
 }
 

@@ -3,6 +3,7 @@ ghost use mathlib.Core.List.{map};
 ghost use mathlib.Core.Path.{_≡_};
 ghost use lib.IntN.{pos, negsuc};
 ghost use lib.ListN.{length};
+ghost use Rattle.codes.specs.Codes.{maxBits, maxSent, maxSigns, maxSoftWorking};
 ghost use Rattle.min_sum.specs.Confidence.{i8};
 ghost use Rattle.min_sum.specs.Outcomes.{written, toLlrsOutcome, toHardOutcome};
 ghost use Rattle.sheet.specs.Sheet.{sheetOf};
@@ -13,6 +14,10 @@ use crate::soft::same_soft;
 use crate::soft::soften;
 use codes::ACCEPTED;
 use codes::CodeParams;
+use codes::MAX_BITS;
+use codes::MAX_SENT;
+use codes::MAX_SIGNS;
+use codes::MAX_SOFT_WORKING;
 use report::Report;
 
 // Both encoders: the data copied in, then the frame encoded once more in place.
@@ -60,10 +65,10 @@ pub(crate) fn bit_flipping(
     want: &[u8],
     output: &mut [u8],
 ) -> bool
-    ensures { λ r. ⌜ Compared c (now (want .entry)) (toldFlip (bitFlipping c (now (read .entry)) (now (output .entry)) (lent 5632 0 (row .«decode_bf_working_len»)))) r (now (output .exit)) ⌝ }
+    ensures { λ r. ⌜ Compared c (now (want .entry)) (toldFlip (bitFlipping c (now (read .entry)) (now (output .entry)) (lent maxBits 0 (row .«decode_bf_working_len»)))) r (now (output .exit)) ⌝ }
 {
-    let mut working = [0u8; 5632];
-    let w = least(row.decode_bf_working_len, 5632);
+    let mut working = [0u8; MAX_BITS];
+    let w = least(row.decode_bf_working_len, MAX_BITS);
     bit_flipping_on(c, read, want, output, &mut working[..w])
 }
 
@@ -93,14 +98,14 @@ pub(crate) fn min_sum_i8(
     want: &[u8],
     output: &mut [u8],
 ) -> bool
-    ensures { λ r. ⌜ Compared c (now (want .entry)) (toldSoft (minSum c (now (read .entry)) (now (output .entry)) (lent 5120 (pos 0) (length (now (read .entry)))) (lent 48640 (pos 0) (row .«decode_ms_working_len»)) (lent 192 0 (row .«decode_ms_working_u8_len»)))) r (now (output .exit)) ⌝ }
+    ensures { λ r. ⌜ Compared c (now (want .entry)) (toldSoft (minSum c (now (read .entry)) (now (output .entry)) (lent maxSent (pos 0) (length (now (read .entry)))) (lent maxSoftWorking (pos 0) (row .«decode_ms_working_len»)) (lent maxSigns 0 (row .«decode_ms_working_u8_len»)))) r (now (output .exit)) ⌝ }
 {
-    let mut llrs = [0i8; 5120];
-    let mut working = [0i8; 48640];
-    let mut signs = [0u8; 192];
-    let n = least(read.len(), 5120);
-    let w = least(row.decode_ms_working_len, 48640);
-    let s = least(row.decode_ms_working_u8_len, 192);
+    let mut llrs = [0i8; MAX_SENT];
+    let mut working = [0i8; MAX_SOFT_WORKING];
+    let mut signs = [0u8; MAX_SIGNS];
+    let n = least(read.len(), MAX_SENT);
+    let w = least(row.decode_ms_working_len, MAX_SOFT_WORKING);
+    let s = least(row.decode_ms_working_u8_len, MAX_SIGNS);
     min_sum_on(
         c,
         read,
@@ -122,10 +127,10 @@ fn to_llrs_on(c: Case, read: &[u8], want: &[u8], llrs: &mut [i8]) -> bool
 }
 
 pub(crate) fn to_llrs(c: Case, read: &[u8], want: &[u8]) -> bool
-    ensures { λ r. ⌜ Agrees r (toLlrsOutcome (negsuc 0) (pos 1) (c .code) (now (read .entry)) (lent 5120 (pos 0) (length (now (want .entry)))) ≡ written 0 (map signed (now (want .entry)))) ⌝ }
+    ensures { λ r. ⌜ Agrees r (toLlrsOutcome (negsuc 0) (pos 1) (c .code) (now (read .entry)) (lent maxSent (pos 0) (length (now (want .entry)))) ≡ written 0 (map signed (now (want .entry)))) ⌝ }
 {
-    let mut llrs = [0i8; 5120];
-    let n = least(want.len(), 5120);
+    let mut llrs = [0i8; MAX_SENT];
+    let n = least(want.len(), MAX_SENT);
     to_llrs_on(c, read, want, &mut llrs[..n])
 }
 
@@ -140,10 +145,10 @@ fn to_hard_on(c: Case, read: &[u8], want: &[u8], output: &mut [u8], llrs: &mut [
 }
 
 pub(crate) fn to_hard(c: Case, read: &[u8], want: &[u8], output: &mut [u8]) -> bool
-    ensures { λ r. ⌜ Converted (toHardOutcome i8 (c .code) (softened (now (read .entry)) (lent 5120 (pos 0) (length (now (read .entry))))) (now (output .entry))) (now (want .entry)) r (now (output .exit)) ⌝ }
+    ensures { λ r. ⌜ Converted (toHardOutcome i8 (c .code) (softened (now (read .entry)) (lent maxSent (pos 0) (length (now (read .entry))))) (now (output .entry))) (now (want .entry)) r (now (output .exit)) ⌝ }
 {
-    let mut llrs = [0i8; 5120];
-    let n = least(read.len(), 5120);
+    let mut llrs = [0i8; MAX_SENT];
+    let n = least(read.len(), MAX_SENT);
     to_hard_on(c, read, want, output, &mut llrs[..n])
 }
 

@@ -18,7 +18,7 @@ use Rattle.bits.specs.Packed.{unpacked}
 use Rattle.bits.proofs.Packed.{unpacked-word}
 use Rattle.runs.specs.declared.Runs.{Runs}
 use Rattle.codes.specs.declared.ParamsAnswer.{ParamsAnswer}
-use Rattle.codes.specs.Codes.{codes, Known, known, rowOf, paramsOf, bitsIn, checksIn}
+use Rattle.codes.specs.Codes.{codes, Known, known, rowOf, paramsOf, bitsIn, checksIn, maxBits, maxChecks}
 use Rattle.codes.specs.Edges.{Edge, inRange, edges}
 use Rattle.runs.specs.Runs.{Run, runEdges, runs, numbers, room, runsOf, readRuns, within, laid}
 use Rattle.codes.specs.Equations.{par, Hold, Meets, wordOf}
@@ -75,10 +75,10 @@ pub met-by : (ns word bits : List ℕ) (m : ℕ) {bits′ checks : List ℕ} {r 
 met-by ns word bits m {bits′} eb el ec er = rw (er, ec, ← eb, ← el) (none-broken (laid m (length bits′) ns) m (wordOf bits′))
 
 module _ {code n m : ℕ} (word : List ℕ) (s : Sizes code n m (length word)) where
-  pub bits-few : n ≤ 5632
+  pub bits-few : n ≤ maxBits
   bits-few = omega (arith, s .bits, roomy code (s .known) .bits)
 
-  pub checks-few : m ≤ 1536
+  pub checks-few : m ≤ maxChecks
   checks-few = omega (arith, s .checks, roomy code (s .known) .checks)
 
   pub code-met : (d ns : List ℕ) (k : ℕ) → length d ≡ n → k ≡ m → ns ≡ numbers (runs code) → holds (laid k (length d) ns) k (wordOf (unpacked word d)) ≡ meetsTest code (bitAt word)

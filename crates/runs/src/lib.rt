@@ -25,10 +25,13 @@ use codes::prototype_of;
 
 pub mod meets;
 
+// Room for the runs of any code, three numbers each.
+pub const TRIPLES: usize = 792;
+
 // The runs of a code, count of them, three numbers each: the first check, the first bit, and how many edges (check + i, bit + i) there are.
 pub struct Runs {
     pub count: usize,
-    pub triples: [u16; 792],
+    pub triples: [u16; TRIPLES],
 }
 
 // One run: its first check, its first bit, and how many edges it has.
@@ -38,7 +41,7 @@ pub struct EdgeRun {
     pub size: usize,
 }
 
-fn put_run(triples: &mut [u16; 792], t: usize, check: Check, bit: Bit, size: usize) -> usize
+fn put_run(triples: &mut [u16; TRIPLES], t: usize, check: Check, bit: Bit, size: usize) -> usize
     requires { ⌜ (t < room) × ((check .0 < 65536) × ((bit .0 < 65536) × (size < 65536))) ⌝ }
     ensures { λ r. ⌜ Stored (now (triples .entry)) t (run (check .0) (bit .0) size ∷ []) (now (triples .exit)) r ⌝ }
 {
@@ -50,7 +53,7 @@ fn put_run(triples: &mut [u16; 792], t: usize, check: Check, bit: Bit, size: usi
 
 // The edges of a turned identity: one run, or two.
 fn put_turned(
-    triples: &mut [u16; 792],
+    triples: &mut [u16; TRIPLES],
     t: usize,
     check: Check,
     bit: Bit,
@@ -78,7 +81,7 @@ fn times(j: usize, q: usize) -> usize
 
 // The four quarters of a permutation, each a turned identity.
 fn put_quarters(
-    triples: &mut [u16; 792],
+    triples: &mut [u16; TRIPLES],
     t: usize,
     check: Check,
     bit: Bit,
@@ -102,7 +105,7 @@ fn put_quarters(
 }
 
 fn put_block(
-    triples: &mut [u16; 792],
+    triples: &mut [u16; TRIPLES],
     t: usize,
     block: Block,
     check: Check,
@@ -124,7 +127,7 @@ fn put_block(
 
 // The blocks are found as the walk finds them.
 fn fill(
-    triples: &mut [u16; 792],
+    triples: &mut [u16; TRIPLES],
     m: usize,
     theta: &[u8; 26],
     phi: &[[u16; 26]; 4],
@@ -163,7 +166,7 @@ fn fill(
 pub fn runs_of(code: usize) -> Runs
     ensures { λ r. ⌜ r ≡ runsOf code ⌝ }
 {
-    let mut triples = [0u16; 792];
+    let mut triples = [0u16; TRIPLES];
     let asked = params(code);
     if asked.answer != ACCEPTED {
         return Runs { count: 0, triples };

@@ -7,7 +7,7 @@ use borrow.Author.Tests.{eq-eqb, ne-eqb}
 use lib.IntN.{ℤ, pos, negsuc}
 use lib.ListN.{take, replicate}
 use Rattle.codes.specs.declared.CodeParams.{CodeParams}
-use Rattle.codes.specs.Codes.{rowOf}
+use Rattle.codes.specs.Codes.{rowOf, maxBytes, maxSent, maxSigns, maxSoftWorking}
 use Rattle.report.specs.declared.Report.{Report}
 use Rattle.report.specs.Report.{refusal, ending}
 use Rattle.encoder.specs.Outcomes.{Encoded, encoded}
@@ -51,10 +51,10 @@ soft-over : (code maxiters : ℕ) (frame : List ℕ) {l w : List ℤ} {o s : Lis
 soft-over code maxiters frame e f g h = rw (e, f, g, h)
 
 pub soft-lent : (code maxiters : ℕ) (frame : List ℕ) {row : CodeParams} → row ≡ rowOf code
-    → softFrom code maxiters (toLlrsOutcome (negsuc 0) (pos 1) code frame (take (row .n) (replicate 5120 (pos 0)))) (take (row .«output_len») (replicate 704 0))
-    (take (row .«decode_ms_working_len») (replicate 48640 (pos 0))) (take (row .«decode_ms_working_u8_len») (replicate 192 0))
+    → softFrom code maxiters (toLlrsOutcome (negsuc 0) (pos 1) code frame (take (row .n) (replicate maxSent (pos 0)))) (take (row .«output_len») (replicate maxBytes 0))
+    (take (row .«decode_ms_working_len») (replicate maxSoftWorking (pos 0))) (take (row .«decode_ms_working_u8_len») (replicate maxSigns 0))
     ≡ msSheet code maxiters frame
 soft-lent code maxiters frame e =
     rw e
-    (soft-over code maxiters frame (replicate-front 5120 (pos 0) _ (llrs-room code)) (replicate-front 704 0 _ (output-room code)) (replicate-front 48640 (pos 0) _ (soft-room code))
-    (replicate-front 192 0 _ (signs-room code)))
+    (soft-over code maxiters frame (replicate-front maxSent (pos 0) _ (llrs-room code)) (replicate-front maxBytes 0 _ (output-room code)) (replicate-front maxSoftWorking (pos 0) _ (soft-room code))
+    (replicate-front maxSigns 0 _ (signs-room code)))

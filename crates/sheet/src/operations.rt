@@ -9,6 +9,12 @@ ghost use Rattle.min_sum.specs.Outcomes.{toLlrsOutcome};
 ghost use Rattle.sheet_text.specs.Printing.{most, answerOf};
 ghost use Rattle.sheet.specs.Sheet.{reported, encodedText, flippedText, softFrom, encodeSheet, bfSheet, msSheet};
 use codes::ACCEPTED;
+use codes::MAX_BITS;
+use codes::MAX_BYTES;
+use codes::MAX_SENT;
+use codes::MAX_SENT_BYTES;
+use codes::MAX_SIGNS;
+use codes::MAX_SOFT_WORKING;
 use codes::params;
 use report::Report;
 use report::finished;
@@ -41,7 +47,7 @@ fn encode_into(code: usize, frame: &[u8], codeword: &mut [u8]) -> Answer
 pub(crate) fn encode_frame(code: usize, frame: &[u8]) -> Answer
     ensures { λ a. ⌜ a ≡ answerOf (encodeSheet code (now (frame .entry))) ⌝ }
 {
-    let mut codeword = [0u8; 640];
+    let mut codeword = [0u8; MAX_SENT_BYTES];
     let n = params(code).row.n / 8;
     encode_into(code, frame, &mut codeword[..n])
 }
@@ -63,8 +69,8 @@ fn flip_into(
 pub(crate) fn flip_frame(code: usize, frame: &[u8], maxiters: usize) -> Answer
     ensures { λ a. ⌜ a ≡ answerOf (bfSheet code maxiters (now (frame .entry))) ⌝ }
 {
-    let mut output = [0u8; 704];
-    let mut working = [0u8; 5632];
+    let mut output = [0u8; MAX_BYTES];
+    let mut working = [0u8; MAX_BITS];
     let row = params(code).row;
     let o = row.output_len;
     let w = row.decode_bf_working_len;
@@ -94,10 +100,10 @@ fn soft_into(
 pub(crate) fn soft_frame(code: usize, frame: &[u8], maxiters: usize) -> Answer
     ensures { λ a. ⌜ a ≡ answerOf (msSheet code maxiters (now (frame .entry))) ⌝ }
 {
-    let mut llrs = [0i8; 5120];
-    let mut output = [0u8; 704];
-    let mut working = [0i8; 48640];
-    let mut signs = [0u8; 192];
+    let mut llrs = [0i8; MAX_SENT];
+    let mut output = [0u8; MAX_BYTES];
+    let mut working = [0i8; MAX_SOFT_WORKING];
+    let mut signs = [0u8; MAX_SIGNS];
     let row = params(code).row;
     let n = row.n;
     let o = row.output_len;

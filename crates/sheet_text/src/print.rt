@@ -8,10 +8,13 @@ ghost use Rattle.sheet_text.specs.Printing.{printed, most, room, answerO
 // The most output bytes that are printed: no output of the library is longer.
 const MOST: usize = 1280;
 
+// Room for that, and for one more line.
+pub const ROOM: usize = 2720;
+
 // The first len bytes are the text.
 pub struct Answer {
     pub len: usize,
-    pub bytes: [u8; 2720],
+    pub bytes: [u8; ROOM],
 }
 
 fn glyph_of(d: u8) -> u8
@@ -21,7 +24,7 @@ fn glyph_of(d: u8) -> u8
     if d < 10 { b'0' + d } else { b'a' + (d - 10) }
 }
 
-fn put_word(bytes: &mut [u8; 2720], at: usize, word: &[u8]) -> usize
+fn put_word(bytes: &mut [u8; ROOM], at: usize, word: &[u8]) -> usize
     requires { ⌜ at + length (now word) ≤ room ⌝ }
     ensures { λ r. ⌜ Written (now (bytes .entry)) at (now (word .entry)) (now (bytes .exit)) r ⌝ }
 {
@@ -31,7 +34,7 @@ fn put_word(bytes: &mut [u8; 2720], at: usize, word: &[u8]) -> usize
     at + word.len()
 }
 
-fn put_decimal(bytes: &mut [u8; 2720], at: usize, n: usize) -> usize
+fn put_decimal(bytes: &mut [u8; ROOM], at: usize, n: usize) -> usize
     requires { ⌜ at + length (decimal n) ≤ room ⌝ }
     ensures { λ r. ⌜ Written (now (bytes .entry)) at (decimal n) (now (bytes .exit)) r ⌝ }
 {
@@ -44,7 +47,7 @@ fn put_decimal(bytes: &mut [u8; 2720], at: usize, n: usize) -> usize
     t + 1
 }
 
-fn put_hex(bytes: &mut [u8; 2720], at: usize, s: &[u8]) -> usize
+fn put_hex(bytes: &mut [u8; ROOM], at: usize, s: &[u8]) -> usize
     requires { ⌜ at + 2 * length (now s) ≤ room ⌝ }
     ensures { λ r. ⌜ Written (now (bytes .entry)) at (hex (now (s .entry))) (now (bytes .exit)) r ⌝ }
 {
@@ -56,7 +59,7 @@ fn put_hex(bytes: &mut [u8; 2720], at: usize, s: &[u8]) -> usize
     at + 2 * s.len()
 }
 
-fn number_line(bytes: &mut [u8; 2720], at: usize, key: &[u8], n: usize) -> usize
+fn number_line(bytes: &mut [u8; ROOM], at: usize, key: &[u8], n: usize) -> usize
     requires { ⌜ at + length (line (now key) (decimal n)) ≤ room ⌝ }
     ensures { λ r. ⌜ Written (now (bytes .entry)) at (line (now (key .entry)) (decimal n)) (now (bytes .exit)) r ⌝ }
 {
@@ -69,7 +72,7 @@ fn print_all(answer: u8, success: bool, iters: usize, output: &[u8]) -> Answer
     requires { ⌜ length (now output) ≤ most ⌝ }
     ensures { λ r. ⌜ r ≡ answerOf (printed answer success iters (now (output .entry))) ⌝ }
 {
-    let mut bytes = [0u8; 2720];
+    let mut bytes = [0u8; ROOM];
     let t = number_line(&mut bytes, 0, b"answer=", answer as usize);
     let u = number_line(&mut bytes, t, b"success=", success as usize);
     let v = number_line(&mut bytes, u, b"iters=", iters);

@@ -6,6 +6,7 @@ use lib.ListN.{replicate}
 use lib.Seq.{length-take-le}
 use Rattle.bits.proofs.Packed.{packed-whole}
 use Rattle.maths.proofs.Slices.{replicate-front-length}
+use Rattle.codes.specs.Codes.{maxChecks}
 use Rattle.runs.specs.declared.Runs.{Runs}
 use Rattle.runs.proofs.Parity.{runs-few, runs-room, runs-taken}
 use Rattle.bit_flip.proofs.Whole.{checks-few, whole-input, sent-low, whole-output, light-by, decoded-by}
@@ -22,11 +23,11 @@ decode-spec =
     (λ c. runs-room _ (c .before .before .runs-of .ensures))
     (λ c. sym (length-take-le _ _ (runs-room _ (c .before .before .before .runs-of .ensures))))
     (λ c. checks-few (c .before .before .before .before .before .before .before .before .pre))
-    (λ c. let s = c .before .before .before .before .before .before .before .before .before in sym (replicate-front-length {A = ℕ} 1536 0 (s .args .m) (checks-few (s .pre))))
+    (λ c. let s = c .before .before .before .before .before .before .before .before .before in sym (replicate-front-length {A = ℕ} maxChecks 0 (s .args .m) (checks-few (s .pre))))
     (λ c κs.
     let r = c .before .before .before .before .before in
     let s = r .before .before .before .before in
-    (whole-input (s .pre), sent-low (s .pre), light-by (s .pre) _ (runs-taken _ (r .runs-of .ensures)) (replicate-front-length {A = ℕ} 1536 0 (s .args .m) (checks-few (s .pre)))))
+    (whole-input (s .pre), sent-low (s .pre), light-by (s .pre) _ (runs-taken _ (r .runs-of .ensures)) (replicate-front-length {A = ℕ} maxChecks 0 (s .args .m) (checks-few (s .pre)))))
     (λ c κs. search needs)
     (λ c κs. search needs)
     (λ c. search needs)
@@ -39,6 +40,6 @@ decode-spec =
     let s = r .before .before .before .before in
     let a = s .args in
     let l = b .decode-bits .kept .1 .1 .1 .0 in
-    decoded-by (s .pre) (now (a .input)) _ (a .maxiters) _ (runs-taken _ (r .runs-of .ensures)) (replicate-front-length {A = ℕ} 1536 0 (a .m) (checks-few (s .pre))) (b .decode-bits .ensures)
+    decoded-by (s .pre) (now (a .input)) _ (a .maxiters) _ (runs-taken _ (r .runs-of .ensures)) (replicate-front-length {A = ℕ} maxChecks 0 (a .m) (checks-few (s .pre))) (b .decode-bits .ensures)
     (p .pack .ensures ∙ packed-whole (b .decode-bits .last .1 .1 .1 .0) (now (a .output)) (whole-output (s .pre) ∙ sym l))
     (k .clear .ensures ∙ ap (λ (n : ℕ). replicate n 0) l)))

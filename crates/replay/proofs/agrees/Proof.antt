@@ -1,4 +1,5 @@
 use Prim.Native.Nat.{ℕ}
+use Rattle.codes.specs.Codes.{maxSent}
 use Rattle.replay.proofs.Lengths.{lent-long}
 use borrow.Author.Needs.{needs}
 use Rattle.replay.proofs.agrees.Statement.{statement}
@@ -16,8 +17,8 @@ agrees-spec =
     (λ c. search needs)
     (λ c. lent-long {A = ℕ} 8193 0 _ (c .before .before .before .least .ensures))
     (λ c. search needs)
-    (λ c. lent-long {A = ℕ} 5120 0 _ (c .before .before .least2 .ensures))
+    (λ c. lent-long {A = ℕ} maxSent 0 _ (c .before .before .least2 .ensures))
     (λ c. search needs)
-    (λ c. lent-long {A = ℕ} 5120 0 _ (c .before .before .before .least2 .ensures))
+    (λ c. lent-long {A = ℕ} maxSent 0 _ (c .before .before .before .least2 .ensures))
     (λ c κs. search needs)
     (λ c. search needs))

@@ -1,4 +1,5 @@
 use Prim.Native.Nat.{ℕ}
+use Rattle.codes.specs.Codes.{maxBits}
 use Rattle.replay.proofs.Lengths.{lent-long, lent-is}
 use borrow.Author.Needs.{needs}
 use Rattle.replay.proofs.operations.bit_flipping.Statement.{statement}
@@ -10,10 +11,10 @@ bit-flipping-spec =
     (tie.spec
     (λ c κs. search needs)
     (λ c. search needs)
-    (λ c. lent-long {A = ℕ} 5632 0 _ (c .before .before .least .ensures))
+    (λ c. lent-long {A = ℕ} maxBits 0 _ (c .before .before .least .ensures))
     (λ c κs. search needs)
     (λ c. search needs)
     (λ c.
     let b = c .before .before .before in
     let l = b .before .before .before in
-    rw (lent-is {A = ℕ} 5632 0 _ (l .least .ensures)) at (b .bit-flipping-on .ensures .compared)))
+    rw (lent-is {A = ℕ} maxBits 0 _ (l .least .ensures)) at (b .bit-flipping-on .ensures .compared)))

@@ -3,6 +3,7 @@ use Prim.Native.Nat.{ℕ}
 use native.Mathlib.Omega.{arith}
 use denote.Ref.{now}
 use lib.IntN.{pos}
+use Rattle.codes.specs.Codes.{maxBytes, maxSent, maxSigns, maxSoftWorking}
 use Rattle.codes.specs.declared.ParamsAnswer.{ParamsAnswer}
 use Rattle.sheet_text.specs.Printing.{answerOf}
 use Rattle.sheet.proofs.Answers.{soft-lent}
@@ -18,16 +19,16 @@ soft-frame-spec =
     (tie.spec
     (λ c κs. search needs)
     (λ c. let p = c .before in rw (p .params .ensures) (llrs-room (p .before .before .args .code)))
-    (λ c. let p = c .before .before in rw (p .params .ensures) (sym (replicate-front-length 5120 (pos 0) _ (llrs-room (p .before .before .args .code)))))
+    (λ c. let p = c .before .before in rw (p .params .ensures) (sym (replicate-front-length maxSent (pos 0) _ (llrs-room (p .before .before .args .code)))))
     (λ c. let p = c .before .before in rw (p .params .ensures) (output-room (p .before .before .args .code)))
-    (λ c. let p = c .before .before .before in rw (p .params .ensures) (sym (replicate-front-length 704 0 _ (output-room (p .before .before .args .code)))))
+    (λ c. let p = c .before .before .before in rw (p .params .ensures) (sym (replicate-front-length maxBytes 0 _ (output-room (p .before .before .args .code)))))
     (λ c. let p = c .before .before .before in rw (p .params .ensures) (soft-room (p .before .before .args .code)))
-    (λ c. let p = c .before .before .before .before in rw (p .params .ensures) (sym (replicate-front-length 48640 (pos 0) _ (soft-room (p .before .before .args .code)))))
+    (λ c. let p = c .before .before .before .before in rw (p .params .ensures) (sym (replicate-front-length maxSoftWorking (pos 0) _ (soft-room (p .before .before .args .code)))))
     (λ c. let p = c .before .before .before .before in rw (p .params .ensures) (signs-room (p .before .before .args .code)))
-    (λ c. let p = c .before .before .before .before .before in rw (p .params .ensures) (sym (replicate-front-length 192 0 _ (signs-room (p .before .before .args .code)))))
+    (λ c. let p = c .before .before .before .before .before in rw (p .params .ensures) (sym (replicate-front-length maxSigns 0 _ (signs-room (p .before .before .args .code)))))
     (λ c κs.
     let p = c .before .before .before .before .before in
-    rw (p .params .ensures, replicate-front-length {A = ℕ} 704 0 _ (output-room (p .before .before .args .code))) (omega (arith, output-room (p .before .before .args .code))))
+    rw (p .params .ensures, replicate-front-length {A = ℕ} maxBytes 0 _ (output-room (p .before .before .args .code))) (omega (arith, output-room (p .before .before .args .code))))
     (λ c.
     let s = c .before .before .before .before in
     let p = s .before .before .before .before .before .before in

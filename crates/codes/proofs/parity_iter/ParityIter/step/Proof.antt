@@ -9,7 +9,7 @@ use Rattle.codes.specs.declared.«parity_iter».ParityIter.{ParityIter}
 use Rattle.codes.specs.declared.CodeParams.{CodeParams}
 use Rattle.codes.specs.declared.«parity_iter».Block.the-variants.{Permutation}
 use Rattle.codes.specs.Tables.{thetas}
-use Rattle.codes.specs.Codes.{made, phiOf}
+use Rattle.codes.specs.Codes.{made, phiOf, maxBlock}
 use Rattle.codes.specs.Blocks.{byteAt, blockOf, blockAt}
 use Rattle.codes.specs.Edges.{permutationColumn, columnOf}
 use Rattle.codes.specs.declared.«parity_iter».Step.the-variants.{Finished}
@@ -51,7 +51,7 @@ at b =
 
 -- what the block that was found says
 module _ {w : ParityIter} {m : ℕ} {k : Block} (a : At w m k) where
-  high : m ≤ 512
+  high : m ≤ maxBlock
   high = rw (a .size) (sized (w .code) (a .inside .code-low) .high)
 
   low : w .i < m
@@ -67,7 +67,7 @@ module _ {w : ParityIter} {m : ℕ} {k : Block} (a : At w m k) where
     step-at : stepOf w ≡ pick (solid b) (nextStep w (columnOf (matrix w) b (w .i))) Finished
     step-at = step-in w b (a .inside) (sym e ∙ a .block)
 
-    column-low : (x : ℕ) → x ≡ columnOf (matrix w) b (w .i) → x < 512
+    column-low : (x : ℕ) → x ≡ columnOf (matrix w) b (w .i) → x < maxBlock
     column-low x f =
         omega (arith, f, column-inside (matrix w) (w .i) (sized (w .code) (a .inside .code-low) .four) (a .inside .i-low) b, sized (w .code) (a .inside .code-low) .high)
 
