@@ -25,7 +25,7 @@ use Rattle.min_sum.specs.Confidence.{i8}
 use Rattle.min_sum.specs.MinSum.{hardBits}
 use Rattle.min_sum.specs.Outcomes.{left, decodeAnswer, decodeOutcome}
 use Rattle.min_sum.proofs.Answers.{decode-lent}
-use Rattle.min_sum.proofs.Rows.{fine}
+use Rattle.codes.proofs.Codes.{roomy}
 use Rattle.min_sum.proofs.Success.{at-once, steady}
 use Rattle.sheet_text.specs.Text.{ascii}
 use Rattle.sheet.specs.Sheet.{flippedText, answerTo, sheetOf}
@@ -65,7 +65,7 @@ module _ (code : ℕ) (old signs : List ℕ) (working : List ℤ) where
       let long : length (replicate n (pos 0)) ≡ n = length-replicate n (pos 0) in
       let given : replicate n (pos 0) ++ replicate p (pos 0) ≡ replicate (n + p) (pos 0) = replicate-append-replicate n p (pos 0) in
       let bytes : length (replicate (n + p) (pos 0)) / 8 ≡ rowOf code .«output_len» =
-      rw (length-replicate (n + p) (pos 0)) (omega (arith, fine code (lent .is-known) .output)) in
+      rw (length-replicate (n + p) (pos 0)) (omega (arith, roomy code (lent .is-known) .whole)) in
       at-once i8 code (replicate n (pos 0)) old working signs 1 (rw long e) (steady 127) (omega arith) (rw (given, zero-hard (n + p)) (zero-meets code))
       ∙ rw (given, zero-hard (n + p), bytes, pack-zero (rowOf code .«output_len»))
 

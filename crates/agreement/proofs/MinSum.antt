@@ -22,7 +22,7 @@ use Rattle.min_sum.specs.Hard.{toHard}
 use Rattle.min_sum.specs.Outcomes.{Outcome}
 use Rattle.min_sum.specs.Working.{Lent}
 use Rattle.min_sum.proofs.Answers.{decode-lent, decode-refused}
-use Rattle.min_sum.proofs.Rows.{fine}
+use Rattle.codes.proofs.Codes.{roomy}
 use Rattle.min_sum.proofs.Success.{sized-state, accepted-is, says-true, at-once, given-bit}
 use Rattle.agreement.specs.Demands.{DecodesByTable, SuccessMeets, FrameReturns, CountsPasses, DecodesAs}
 use Rattle.agreement.specs.Ours.{Soft, minSum, marginalsIn, minSumming}
@@ -59,7 +59,7 @@ module _ {C : Type 0} (o : Confidence C) where
       pub min-sum-length : length (minSum o code b limit .output) ≡ rowOf code .«output_len»
       min-sum-length =
           rw output-is (length-pack (hardBits o (ran limit .state .marginals)) _
-          ∙ rw (sized-state o code (b .llrs) limit (lent .is-known) (lent .llrs-long)) (omega (arith, fine code (lent .is-known) .output)))
+          ∙ rw (sized-state o code (b .llrs) limit (lent .is-known) (lent .llrs-long)) (omega (arith, roomy code (lent .is-known) .whole)))
 
   pub min-sum-counts : CountsPasses (minSumming o) (minSum o)
   unfolding turn met

@@ -64,9 +64,11 @@ roomy code h =
       bits = leb→le (bitsIn code) maxBits (below-at codes (λ c. leb (bitsIn c) maxBits) tt code h);
       checks = leb→le (checksIn code) maxChecks (below-at codes (λ c. leb (checksIn c) maxChecks) tt code h);
       k-low = leb→le (rowOf code .k) (rowOf code .n) (below-at codes (λ c. leb (rowOf c .k) (rowOf c .n)) tt code h);
+      data-bytes = below-eq codes (λ c. 8 * (rowOf c .k / 8)) (λ c. rowOf c .k) tt code h;
       sent = below-eq codes (λ c. 8 * (rowOf c .n / 8)) (λ c. rowOf c .n) tt code h;
       whole = below-eq codes (λ c. 8 * rowOf c .«output_len») bitsIn tt code h;
       working = lengths code h .bit-flipping;
+      soft-working = below-eq codes (λ c. rowOf c .«decode_ms_working_len») (λ c. 2 * rowOf c .«paritycheck_sum» + bitsIn c + 2 * checksIn c) tt code h;
     }
 
 -- every bit of a TC code is sent

@@ -19,11 +19,14 @@ Small Empty = Unit
 Small (Identity v) = v < 64
 Small (Permutation v) = v < 26
 
--- the bits and checks of a code fit the arrays that are made for them, and its bytes are whole
+-- what the functions ask of a row: its bits and checks fit the arrays that are made for them, its bytes are whole, and the working buffers
+-- have a number for each bit, or two for each edge, one for each bit and two for each check
 pub record Roomy (r : CodeParams) : Type 0 where
   pub bits : r .n + r .«punctured_bits» ≤ maxBits
   pub checks : r .n + r .«punctured_bits» - r .k ≤ maxChecks
   pub k-low : r .k ≤ r .n
+  pub data-bytes : 8 * (r .k / 8) ≡ r .k
   pub sent : 8 * (r .n / 8) ≡ r .n
   pub whole : 8 * r .«output_len» ≡ r .n + r .«punctured_bits»
   pub working : r .«decode_bf_working_len» ≡ r .n + r .«punctured_bits»
+  pub soft-working : r .«decode_ms_working_len» ≡ 2 * r .«paritycheck_sum» + (r .n + r .«punctured_bits») + 2 * (r .n + r .«punctured_bits» - r .k)

@@ -14,6 +14,7 @@ use Rattle.codes.specs.declared.CodeParams.{CodeParams}
 use Rattle.codes.specs.Words.{generators}
 use Rattle.codes.specs.Codes.{codes, Known, rows, rowOf, generatorOf, circulantOf}
 use Rattle.codes.specs.Frames.{parity, generator, generatorBit, encodedBytes}
+use Rattle.codes.proofs.Codes.{roomy}
 use Rattle.encoder.specs.Rotation.{placed}
 use Rattle.encoder.specs.Sizes.{Sized}
 use Rattle.encoder.proofs.Packed.{pack-ext}
@@ -24,16 +25,10 @@ abbrev parityOf : ℕ → ℕ
 parityOf code = rowOf code .n - rowOf code .k
 
 pub data-low : (code : ℕ) → Known code → rowOf code .k ≤ rowOf code .n
-unfolding rows
-data-low code h = leb→le (rowOf code .k) (rowOf code .n) (below-at codes (λ c. leb (rowOf c .k) (rowOf c .n)) tt code h)
+data-low code h = roomy code h .k-low
 
 bytes-all : (code : ℕ) → Known code → rowOf code .n / 8 ≡ rowOf code .k / 8 + parityOf code / 8
-unfolding rows span
-bytes-all code h = span-same (λ c. rowOf c .n / 8) (λ c. rowOf c .k / 8 + parityOf c / 8) codes refl code h
-
-data-whole : (code : ℕ) → Known code → rowOf code .k / 8 * 8 ≡ rowOf code .k
-unfolding rows span
-data-whole code h = span-same (λ c. rowOf c .k / 8 * 8) (λ c. rowOf c .k) codes refl code h
+bytes-all code h = let r = roomy code h in omega (arith, r .k-low, r .sent, r .data-bytes)
 
 pub sized : (code : ℕ) → Known code → (s : List ℕ) → length s ≡ rowOf code .n / 8 → Sized s (generatorOf code) (rowOf code .k) (parityOf code) (circulantOf code)
 unfolding rows generators span
@@ -63,7 +58,7 @@ placed-frame code h s e =
     ∙ ap (λ (x : List ℕ). take k8 s ++ x) (append-nil _)
   where
     same : (i : ℕ) → i < rowOf code .k → bitAt s i ≡ bitAt (take (rowOf code .k / 8) s) i
-    same i l = sym (bitAt-take (rowOf code .k / 8) s i (omega (arith, data-whole code h)))
+    same i l = sym (bitAt-take (rowOf code .k / 8) s i (omega (arith, roomy code h .data-bytes)))
 
 -- ---- by a row and words that are the code's
 module _ (code : ℕ) (h : Known code) (row : CodeParams) (g : List ℕ) (is-row : row ≡ rowOf code) (is-words : g ≡ generatorOf code) (s : List ℕ) (e : length s ≡ rowOf code .n / 8) where

@@ -35,8 +35,8 @@ bitsOn b ks c = let t = c % b in map (spot b t) (inRow ks (c / b))
 abbrev pub rowsOf : List Circ → ℕ → List (List Circ)
 rowsOf ks mb = span (inRow ks) 0 mb
 
-abbrev pub bitsIn : ℕ → List (List Circ) → ℕ → List ℕ
-bitsIn b rows c = let t = c % b in map (spot b t) (getD rows (c / b) [])
+abbrev pub rowBits : ℕ → List (List Circ) → ℕ → List ℕ
+rowBits b rows c = let t = c % b in map (spot b t) (getD rows (c / b) [])
 
 -- the circulants of nb columns, each by mb rows
 abbrev pub columnOf : List Circ → ℕ → ℕ → List (List Circ)
@@ -83,8 +83,8 @@ module _ (b mb nb : ℕ) (pos : 0 < b) (ks : List Circ) (ranged : T (all (inside
       go (yes h) = span-get (inRow ks) [] mb a h
       go (no h) = List·getD-eq-default (rowsOf ks mb) [] {n = a} (rw (span-length (inRow ks) 0 mb) (omega arith)) ∙ sym (row-empty a (omega arith))
 
-  pub bits-in : bitsIn b (rowsOf ks mb) ≡ bitsOn b ks
-  bits-in = fun-ext (λ c. ap (map (spot b (c % b))) (row-at (c / b)))
+  pub row-bits : rowBits b (rowsOf ks mb) ≡ bitsOn b ks
+  row-bits = fun-ext (λ c. ap (map (spot b (c % b))) (row-at (c / b)))
 
   column-at : (p a : ℕ) → p < nb → getD (getD (columnsOf ks mb nb) p []) a [] ≡ inColumn (inRow ks a) p
   column-at p a hp = rw (span-get (columnOf ks mb) [] nb p hp) (go (decLt a mb))

@@ -3,7 +3,6 @@ pub mod Held
 pub mod Links
 pub mod Parity
 pub mod Pass
-pub mod Rows
 pub mod Answers
 pub mod Ran
 pub mod Packed

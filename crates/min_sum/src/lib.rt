@@ -4,12 +4,13 @@ ghost use mathlib.Core.Path.{_≡_};
 ghost use Prim.Native.Nat.{_-_, _*_};
 ghost use lib.ListN.{length};
 ghost use Rattle.codes.specs.Codes.{rowOf};
+ghost use Rattle.codes.specs.Sound.{Roomy};
 ghost use Rattle.runs.specs.Runs.{runEdges, readRuns};
 ghost use Rattle.report.specs.Report.{ending};
 ghost use Rattle.min_sum.specs.Confidence.{i8};
 ghost use Rattle.min_sum.specs.MinSum.{decoded};
 ghost use Rattle.min_sum.specs.Outcomes.{left, decodeAnswer, finishedAs, decodeOutcome};
-ghost use Rattle.min_sum.specs.Working.{layoutOf, ranOver, Fine, Sized, Ready, Lent};
+ghost use Rattle.min_sum.specs.Working.{layoutOf, ranOver, Sized, Ready, Lent};
 
 pub mod llrs;
 mod min_sum;
@@ -67,7 +68,7 @@ fn refusal(
 
 // The working buffer of a code.
 fn layout(row: CodeParams) -> Layout
-    requires { ⌜ Fine row ⌝ }
+    requires { ⌜ Roomy row ⌝ }
     ensures { λ r. ⌜ r ≡ layoutOf row ⌝ }
 {
     let bits = row.n + row.punctured_bits;
