@@ -10,7 +10,7 @@ use Rattle.maths.specs.Distance.{distance}
 use Rattle.codes.specs.Codes.{TC, TM, rowOf, checksIn}
 use Rattle.codes.specs.Edges.{Edge, edges}
 use Rattle.report.specs.declared.Report.{Report}
-use Rattle.report.specs.Report.{refusal, ending, Told, told}
+use Rattle.report.specs.Report.{refusal, ending, Told, told, saying, counting}
 use Rattle.encoder.specs.Outcomes.{Encoded, encoded}
 use Rattle.min_sum.specs.Confidence.{Confidence}
 use Rattle.min_sum.specs.MinSum.{Messages, numbered, addMessage, takeMessage, restarted, renewed, start, met}
@@ -44,7 +44,7 @@ module _ {B : Type 0} where
   abbrev pub fails : Decoder B → Decoder B
   fails d code b limit =
       let x = d code b limit in
-      told (record { answer = x .report .answer; success = false; iters = x .report .iters }) (x .output)
+      told (saying false (x .report)) (x .output)
 
   -- "One fixed answer"
   abbrev pub decodesAlike : Told → Decoder B
@@ -62,7 +62,7 @@ module _ {B : Type 0} where
   abbrev pub renumbered : (ℕ → B → ℕ → ℕ) → Decoder B → Decoder B
   renumbered number d code b limit =
       let x = d code b limit in
-      told (record { answer = x .report .answer; success = x .report .success; iters = number code b limit }) (x .output)
+      told (counting (number code b limit) (x .report)) (x .output)
 
   -- it says true of every call that is accepted, with a limit of at least 1
   abbrev pub SaysTrue : Receiving B → Reports B → Type 0

@@ -5,7 +5,7 @@ use native.Mathlib.Omega.{arith}
 use lib.Dec.{ltb, leb, ltb→lt, leb→le}
 use Rattle.maths.proofs.Tests.{below-at, below-eq}
 use Rattle.codes.specs.Codes.{codes, Known, tcCodes, TC, matrixOf, rowOf, rows, bitsIn, checksIn, circulantOf}
-use Rattle.codes.proofs.Codes.{sized}
+use Rattle.codes.proofs.Codes.{sized, roomy}
 
 abbrev pub sizeOf : ℕ → ℕ
 sizeOf code = matrixOf code .size
@@ -50,6 +50,7 @@ pub sizes : (code : ℕ) → Known code → Sizes code
 unfolding rows
 sizes code h =
     let size = sized code h in
+    let room = roomy code h in
     record {
       some = ltb→lt 0 (circulantOf code) (below-at codes (λ c. ltb 0 (circulantOf c)) tt code h);
       whole = below-eq codes sizeOf (λ c. sizeOf c / circulantOf c * circulantOf c) tt code h;
@@ -61,9 +62,9 @@ sizes code h =
       check-blocks = below-eq codes (λ c. checkBlocks c * circulantOf c) checksIn tt code h;
       bit-blocks = below-eq codes (λ c. bitBlocks c * circulantOf c) bitsIn tt code h;
       parity-blocks = below-eq codes (λ c. parityBlocks c * circulantOf c) (λ c. rowOf c .n - rowOf c .k) tt code h;
-      data-bytes = below-eq codes (λ c. rowOf c .k / 8 * 8) (λ c. rowOf c .k) tt code h;
+      data-bytes = omega (arith, room .data-bytes);
       parity-bytes = below-eq codes (λ c. parityBytes c * 8) (λ c. rowOf c .n - rowOf c .k) tt code h;
-      data-fits = leb→le (rowOf code .k) (rowOf code .n) (below-at codes (λ c. leb (rowOf c .k) (rowOf c .n)) tt code h);
+      data-fits = room .k-low;
     }
 
 -- every bit of a TC code is sent, in whole bytes

@@ -10,7 +10,8 @@ use lib.IntN.{ℤ}
 use lib.ListN.{length, take, replicate}
 use lib.Seq.{take-append-seam}
 use Rattle.report.specs.declared.Report.{Report}
-use Rattle.report.specs.Report.{ending, Told, told}
+use Rattle.report.specs.Report.{Told, told}
+use Rattle.report.proofs.Ending.{is-ending}
 use Rattle.bit_flip.specs.Outcome as flip
 use Rattle.min_sum.specs.Confidence.{i8}
 use Rattle.min_sum.specs.Outcomes as soft
@@ -43,9 +44,6 @@ alike true false e = e
 alike false true e = sym e
 alike false false e = refl
 
-made : (a : ℕ) (b s : Bool) (i n : ℕ) → a ≡ 0 → b ≡ s → i ≡ n → record { answer = a; success = b; iters = i } ≡ ending s n
-made a b s i n e f g = rw (e, f, g)
-
 module _ (r : Report) (c : Case) where
   pub other-answer : (r .answer ≡ 0 → ⊥) → Agrees false (r ≡ recorded c)
   other-answer h = denies (λ p. h (ap (λ (x : Report). x .answer) p))
@@ -56,7 +54,7 @@ module _ (r : Report) (c : Case) where
   pub iters-tell : r .answer ≡ 0 → not (Bool·beq (r .success) (c .success)) ≡ false → Agrees (eqb (r .iters) (c .iters)) (r ≡ recorded c)
   iters-tell e f =
       record {
-        sound = λ h. made (r .answer) (r .success) (c .success) (r .iters) (c .iters) e (alike (r .success) (c .success) f) (eqb-true (r .iters) (c .iters) h);
+        sound = λ h. is-ending r (c .success) (c .iters) e (alike (r .success) (c .success) f) (eqb-true (r .iters) (c .iters) h);
         complete = λ p. eq-eqb (r .iters) (c .iters) (ap (λ (x : Report). x .iters) p);
       }
 

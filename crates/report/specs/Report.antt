@@ -11,6 +11,13 @@ refusal n = record { answer = n; success = false; iters = 0 }
 abbrev pub ending : Bool → ℕ → Report
 ending b n = record { answer = 0; success = b; iters = n }
 
+-- a report with another success, and with another number of iterations
+abbrev pub saying : Bool → Report → Report
+saying b r = record { answer = r .answer; success = b; iters = r .iters }
+
+abbrev pub counting : ℕ → Report → Report
+counting n r = record { answer = r .answer; success = r .success; iters = n }
+
 -- success as a number
 abbrev pub flag : Bool → ℕ
 flag true = 1
