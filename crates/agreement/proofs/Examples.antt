@@ -15,7 +15,7 @@ use Rattle.codes.specs.Answers.{firstOf}
 use Rattle.codes.specs.Codes.{rows, rowOf}
 use Rattle.codes.proofs.Remaining.{begin}
 use Rattle.codes.specs.Frames.{encodedBytes}
-use Rattle.codes.proofs.Codes.{edge-count}
+use Rattle.codes.proofs.Codes.{edge-count, roomy}
 use Rattle.encoder.specs.Rotation.{placed, rotated}
 use Rattle.report.specs.Report.{ending}
 use Rattle.bit_flip.specs.Outcome as flip
@@ -25,7 +25,6 @@ use Rattle.min_sum.specs.Confidence.{i8}
 use Rattle.min_sum.specs.MinSum.{hardBits}
 use Rattle.min_sum.specs.Outcomes.{left, decodeAnswer, decodeOutcome}
 use Rattle.min_sum.proofs.Answers.{decode-lent}
-use Rattle.codes.proofs.Codes.{roomy}
 use Rattle.min_sum.proofs.Success.{at-once, steady}
 use Rattle.sheet_text.specs.Text.{ascii}
 use Rattle.sheet.specs.Sheet.{flippedText, answerTo, sheetOf}

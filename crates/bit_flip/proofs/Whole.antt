@@ -23,8 +23,7 @@ use Rattle.codes.specs.Codes.{codes, known, rowOf, paramsOf, bitsIn, checksIn, 
 use Rattle.codes.specs.Edges.{Edge, edges}
 use Rattle.runs.specs.Runs.{runs, numbers, laid}
 use Rattle.codes.specs.Equations.{wordOf}
-use Rattle.codes.proofs.Codes.{roomy}
-use Rattle.codes.proofs.Codes.{asked-unknown, asked-known}
+use Rattle.codes.proofs.Codes.{roomy, asked-unknown, asked-known}
 use Rattle.runs.proofs.Parity.{laid-runs}
 use Rattle.runs.proofs.Light.{light}
 use Rattle.report.specs.declared.Report.{Report}

@@ -9,10 +9,9 @@ use native.Mathlib.Decide.{ℕ-discrete}
 use native.Mathlib.Omega.{arith}
 use lib.Dec.{T, T-not, eqb}
 use Rattle.maths.specs.Tests.{pick, both, all}
-use Rattle.maths.specs.Lists.{span}
+use Rattle.maths.specs.Lists.{span, keep}
 use Rattle.maths.specs.Sums.{sumL}
 use Rattle.maths.specs.Ones.{delta}
-use Rattle.maths.specs.Lists.{keep}
 use Rattle.maths.specs.Tally.{tally, apart}
 use Rattle.maths.proofs.Tests.{both-left, both-right}
 

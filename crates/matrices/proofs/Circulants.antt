@@ -3,8 +3,7 @@ use mathlib.Core.Bool.{Bool, true, false}
 use mathlib.Core.List.{List, []}
 use mathlib.Core.Path.{_≡_, refl, sym, ap₂, _∙_, subst, subst₂}
 use Prim.Native.Nat.{ℕ, zero, _+_, _*_, _/_, _%_, _<_}
-use native.Mathlib.Nat.{add-zero, zero-add, add-comm, add-mul, zero-mul, mul-comm, mul-assoc, eq-of-mul-eq-mul-right}
-use native.Mathlib.Nat.{mul-div-cancel-left, mod-eq-of-lt, add-mul-mod-self-right}
+use native.Mathlib.Nat.{add-zero, zero-add, add-comm, add-mul, zero-mul, mul-comm, mul-assoc, eq-of-mul-eq-mul-right, mul-div-cancel-left, mod-eq-of-lt, add-mul-mod-self-right}
 use native.Mathlib.Omega.{arith}
 use borrow.Author.Tests.{eqb-true}
 use lib.Arith.{digits-div, digits-lt}

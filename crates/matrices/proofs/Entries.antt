@@ -7,8 +7,7 @@ use native.Mathlib.Nat.{mod-lt, mod-eq-of-lt, add-sub-cancel, div-add-mod', div-
 use native.Mathlib.Omega.{arith}
 use lib.Dec.{eqb}
 use Rattle.maths.specs.Tests.{both}
-use Rattle.maths.specs.Lists.{span}
-use Rattle.maths.specs.Lists.{keep}
+use Rattle.maths.specs.Lists.{span, keep}
 use Rattle.maths.specs.Tally.{tally}
 use Rattle.maths.proofs.Lists.{table-same}
 use Rattle.maths.proofs.Tally.{tally-keep}

@@ -9,8 +9,7 @@ use native.Mathlib.Omega.{arith}
 use lib.Dec.{eqb}
 use borrow.Author.Tests.{eq-eqb, ne-eqb}
 use Rattle.maths.specs.Tests.{pick, both}
-use Rattle.maths.specs.Lists.{span}
-use Rattle.maths.specs.Lists.{keep}
+use Rattle.maths.specs.Lists.{span, keep}
 use Rattle.maths.specs.Tally.{tally}
 use Rattle.maths.specs.Sums.{sumL}
 use Rattle.maths.specs.Ones.{delta}

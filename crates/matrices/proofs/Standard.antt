@@ -12,8 +12,7 @@ use Rattle.maths.proofs.Lists.{table-same}
 use Rattle.codes.specs.Tables.{prototypes}
 use Rattle.codes.specs.Codes.{codes, Known, rows, tables, prototypeOf, bitsIn, checksIn}
 use Rattle.codes.specs.Blocks.{blockOf}
-use Rattle.matrices.specs.Ccsds.{Cell, standards, standardOf, cellOf}
-use Rattle.matrices.specs.Ccsds.{tc128, tc256, tc512, half, before, twoThirds, threeQuarters, fourFifths}
+use Rattle.matrices.specs.Ccsds.{Cell, standards, standardOf, cellOf, tc128, tc256, tc512, half, before, twoThirds, threeQuarters, fourFifths}
 use Rattle.matrices.specs.Reading.{read}
 use Rattle.matrices.proofs.Sizes.{sizeOf}
 
