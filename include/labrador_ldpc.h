@@ -65,7 +65,7 @@ uint8_t ldpc_decode_bf(size_t code, const uint8_t *input, size_t input_len, uint
  * numbers; working_u8: decode_ms_working_u8_len bytes. *success becomes 1 where the output meets every parity equation
  * after pass *iters, counted from 0; else it becomes 0 and *iters maxiters. The output is written in both cases. A TC
  * frame with one flipped bit is put right if all confidences are of one size and maxiters is 2 or more.
- * The larger a confidence, the surer the bit, on a logarithmic scale of any unit. Messages are added up in 8 bits too:
+ * The larger a confidence's size, the surer its bit, on a logarithmic scale of any unit. Messages are added up in 8 bits too:
  * with confidences from -32 to 31 several can be added before a sum is cut at 127 or -128. */
 uint8_t ldpc_decode_ms_i8(size_t code, const int8_t *llrs, size_t llrs_len, uint8_t *output, size_t output_len,
                           int8_t *working, size_t working_len, uint8_t *working_u8, size_t working_u8_len,

@@ -1,4 +1,4 @@
--- What the rows and tables of the codes have in common: each is one test over all codes. Assumes nothing.
+-- What the rows and the tables of the codes satisfy, each by one test over all codes; and what `params` answered. Assumes nothing.
 use mathlib.Core.Bool.{Bool, true, false}
 use mathlib.Core.List.{[]}
 use mathlib.Core.Path.{_≡_, refl, sym, _∙_, subst}

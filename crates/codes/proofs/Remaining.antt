@@ -34,7 +34,6 @@ use Rattle.codes.specs.Blocks.{
   blocksFrom,
   blockAt,
   headOf,
-  restOf,
 }
 use Rattle.codes.specs.Edges.{Edge, edgeAt, blockEdges, blocksOf, edges}
 use Rattle.codes.specs.Walk.{

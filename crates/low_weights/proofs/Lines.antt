@@ -31,10 +31,11 @@ checkTo b x k = k .row * b + (x + (b - k .turn % b)) % b
 abbrev pub bitsOn : ℕ → List Circ → ℕ → List ℕ
 bitsOn b ks c = let t = c % b in map (spot b t) (inRow ks (c / b))
 
--- the same, out of a list of the rows
+-- the circulants of mb rows
 abbrev pub rowsOf : List Circ → ℕ → List (List Circ)
 rowsOf ks mb = span (inRow ks) 0 mb
 
+-- the bits of a check out of these
 abbrev pub rowBits : ℕ → List (List Circ) → ℕ → List ℕ
 rowBits b rows c = let t = c % b in map (spot b t) (getD rows (c / b) [])
 

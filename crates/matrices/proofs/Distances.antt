@@ -1,4 +1,4 @@
--- The distance of a byte string from a frame, in bits that are sent; of those that meet the equations of TC128, TC256 or TC512 it is even. Assumes nothing.
+-- The distance of two byte strings, in bits that are sent; of those that meet the equations of TC128, TC256 or TC512 it is even. Assumes nothing.
 use mathlib.Core.Path.{_≡_, ap, _∙_}
 use mathlib.Core.List.{List}
 use Prim.Native.Nat.{ℕ, _*_, _/_}

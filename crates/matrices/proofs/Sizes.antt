@@ -1,4 +1,4 @@
--- How the sizes of a code's blocks, circulants, edges and bytes go together. Assumes nothing.
+-- How the sizes of a code's blocks, circulants and bytes go together. Assumes nothing.
 use mathlib.Core.Path.{_≡_}
 use Prim.Native.Nat.{ℕ, _-_, _*_, _/_, _%_, _≤_, _<_}
 use native.Mathlib.Omega.{arith}

@@ -134,7 +134,7 @@ fn decode(
 }
 
 // Min-sum on confidences of 8 bits, at most maxiters passes: slower than bit flipping, with more memory, and better where the receiver knows
-// how sure it is of a bit. A confidence is above 0 for a bit 0 and below 0 for a bit 1, the larger the surer, on a logarithmic scale.
+// how sure it is of a bit. A confidence is above 0 for a bit 0 and below 0 for a bit 1; the larger its size, the surer the bit, on a logarithmic scale.
 //
 // Until a sum is cut only their ratios matter, so any scale will do; but messages are added up in 8 bits too, and what passes 127 or -128 stays
 // there. Leave room for some of them: with confidences of -32 to 31 several can be added before a sum is cut. Bits without confidences do with 1 and -1,

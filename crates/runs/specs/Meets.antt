@@ -18,7 +18,7 @@ use Rattle.runs.specs.declared.meets.Met.{Met}
 unfoldable pub syndromeOf : List Edge → ℕ → (ℕ → ℕ) → List ℕ
 syndromeOf es m w = span (λ a. par es w a % 2) 0 m
 
--- the same as a test
+-- whether each of m checks holds
 abbrev pub holds : List Edge → ℕ → (ℕ → ℕ) → Bool
 holds es m w = below m (λ a. eqb (par es w a % 2) 0)
 

@@ -1,7 +1,6 @@
--- The buffers of the operations serve every code, and are lent as zeros. Assumes nothing.
+-- The buffers of the operations serve every code. Assumes nothing.
 use Prim.Native.Nat.{ℕ, _/_, _≤_}
 use lib.Dec.{T, leb, leb→le}
-use lib.ListN.{length}
 use Rattle.maths.specs.Tests.{all}
 use Rattle.maths.proofs.Tests.{all-anywhere}
 use Rattle.codes.specs.declared.CodeParams.{CodeParams}

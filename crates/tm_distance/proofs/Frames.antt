@@ -58,7 +58,7 @@ module _ (code : ℕ) (tm : TM code) where
     -- one on a way of three bits over what was received begins with the frame, and completes it
     module _ (received word : List ℕ) (as-long : length received ≡ rowOf code .n / 8) (near : distance frame received + distance received (front word) ≤ 3)
         (long : length word ≡ rowOf code .«output_len») (is-bytes : Bytes word) (good : Meets code (bitAt word)) where
-      pub near-front : front word ≡ frame
+      near-front : front word ≡ frame
       near-front =
           let l = front-length word long in
           sym (distance-zero frame (front word) (len ∙ sym l) bytes (bytes-take (rowOf code .n / 8) word l is-bytes) (go (decLt 0 (distance frame (front word)))))

@@ -20,12 +20,12 @@ abbrev pub reducedOf : ℕ → List Circ
 reducedOf code = let ks = circs code in reduced (circulantOf code) (sentBlocks code) (bitBlocks code) (thirdBlock code) ks
 
 -- no word of the reduced equations has a one and two more at most; a column has at most eight circulants beyond one in a row
-abbrev noneSent : ℕ → Bool
+abbrev pub noneSent : ℕ → Bool
 noneSent code = let js = reducedOf code in noneIn (circulantOf code) (thirdBlock code) (sentBlocks code) js 8 2
 
 none-hold : T (below tmCodes (λ c. noneSent (tcCodes + c)))
 unfolding rows tables prototypes thetas phis circs flatMap blockCircs circsAt span blocksOf lastRows rowBlocks cellBlocks blockOf
 none-hold = tt
 
-pub none-sent : (code : ℕ) → TM code → T (noneIn (circulantOf code) (thirdBlock code) (sentBlocks code) (reducedOf code) 8 2)
+pub none-sent : (code : ℕ) → TM code → T (noneSent code)
 none-sent = tm-at noneSent none-hold
