@@ -18,6 +18,10 @@ abbrev pub firstOf : List Test → ℕ
 firstOf [] = 0
 firstOf (t ∷ ts) = pick (t .fails) (t .number) (firstOf ts)
 
+-- a further test: an answer that is not 0 stays
+unfoldable pub orTest : ℕ → Test → ℕ
+orTest answer t = pick (eqb answer 0) (pick (t .fails) (t .number) 0) answer
+
 -- a length that is not the one asked for
 abbrev pub unlike : ℕ → ℕ → Bool
 unlike have want = not (eqb have want)

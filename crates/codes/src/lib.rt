@@ -1,5 +1,6 @@
 // The codes: their parameters and tables, and the numbers by which the library answers. (Rust: codes/mod.rs)
 ghost use mathlib.Core.Path.{_≡_};
+ghost use Rattle.codes.specs.Answers.{test, orTest, unlike};
 ghost use Rattle.codes.specs.Codes.{Known, rowOf, paramsOf, prototypeOf, phiOf};
 
 pub mod compact_generators;
@@ -21,6 +22,26 @@ pub const WRONG_WRITTEN: u8 = 3;
 pub const WRONG_WORKING: u8 = 4;
 
 pub const WRONG_SIGNS: u8 = 5;
+
+// One test more: the answer so far, or the number of this test where the answer was 0 and the test fails.
+pub fn or_test(answer: u8, fails: bool, number: u8) -> u8
+    ensures { λ r. ⌜ r ≡ orTest answer (test fails number) ⌝ }
+{
+    if answer != ACCEPTED {
+        answer
+    } else if fails {
+        number
+    } else {
+        ACCEPTED
+    }
+}
+
+// The test that a buffer has the length asked for.
+pub fn or_length(answer: u8, have: usize, want: usize, number: u8) -> u8
+    ensures { λ r. ⌜ r ≡ orTest answer (test (unlike have want) number) ⌝ }
+{
+    or_test(answer, have != want, number)
+}
 
 // How many codes there are: TC128, TC256, TC512, TM1280, TM1536, TM2048, TM5120, numbered from 0.
 pub const CODES: usize = 7;

@@ -3,6 +3,14 @@ use mathlib.Core.List.{List}
 use mathlib.Core.Path.{_≡_}
 use Prim.Native.Nat.{ℕ, _+_, _*_, _/_, _^_, _≤_, _<_}
 use lib.ListN.{length}
+use Rattle.codes.specs.declared.CodeParams.{CodeParams}
+use Rattle.codes.specs.Codes.{Known, rowOf}
+
+-- a code that is known, its row, and a codeword as long as its frames
+pub record Accepted (code : ℕ) (row : CodeParams) (codeword : ℕ) : Type 0 where
+  pub known : Known code
+  pub is-row : row ≡ rowOf code
+  pub long : codeword ≡ rowOf code .n / 8
 
 -- rows of b data bits before byte at, the words of a row after it, and as many words in each row of the generator
 pub record Laid (s g : List ℕ) (at b rows words : ℕ) : Type 0 where

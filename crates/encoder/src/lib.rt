@@ -3,17 +3,16 @@ ghost use mathlib.Core.Path.{_≡_};
 ghost use mathlib.Core.List.{_++_};
 ghost use Prim.Native.Nat.{_/_, _≤_};
 ghost use lib.ListN.{length, take, drop};
-ghost use Rattle.codes.specs.Codes.{Known, rowOf};
+ghost use Rattle.codes.specs.Codes.{rowOf};
 ghost use Rattle.codes.specs.Frames.{encodedBytes};
 ghost use Rattle.encoder.specs.Outcomes.{encoded, encodeOutcome, copyEncodeOutcome};
+ghost use Rattle.encoder.specs.Sizes.{Accepted};
 
 mod parity;
 mod rotation;
 
 use codes::ACCEPTED;
-use codes::CODES;
 use codes::CodeParams;
-use codes::UNKNOWN_CODE;
 use codes::WRONG_READ;
 use codes::WRONG_WRITTEN;
 use codes::compact_generators::TC128_G;
@@ -23,12 +22,13 @@ use codes::compact_generators::TM1280_G;
 use codes::compact_generators::TM1536_G;
 use codes::compact_generators::TM2048_G;
 use codes::compact_generators::TM5120_G;
+use codes::or_length;
 use codes::params;
 use parity::encode_parity;
 
 // A constant has no memory of its own: the generator is a local, made once for a call and lent.
 fn encode_known(code: usize, row: CodeParams, codeword: &mut [u8])
-    requires { ⌜ (Known code) × ((row ≡ rowOf code) × (length (now codeword) ≡ rowOf code .n / 8)) ⌝ }
+    requires { ⌜ Accepted code row (length (now codeword)) ⌝ }
     ensures { λ _. ⌜ now (codeword .exit) ≡ encodedBytes code (take (rowOf code .k / 8) (now (codeword .entry))) ⌝ }
 {
     let k = row.k;
@@ -70,12 +70,11 @@ fn encode_known(code: usize, row: CodeParams, codeword: &mut [u8])
 pub fn encode(code: usize, codeword: &mut [u8]) -> u8
     ensures { λ r. ⌜ encoded r (now (codeword .exit)) ≡ encodeOutcome code (now (codeword .entry)) ⌝ }
 {
-    if code >= CODES {
-        return UNKNOWN_CODE;
-    }
-    let row = params(code).row;
-    if codeword.len() != row.n / 8 {
-        return WRONG_WRITTEN;
+    let asked = params(code);
+    let row = asked.row;
+    let answer = or_length(asked.answer, codeword.len(), row.n / 8, WRONG_WRITTEN);
+    if answer != ACCEPTED {
+        return answer;
     }
     encode_known(code, row, codeword);
     ACCEPTED
@@ -95,15 +94,12 @@ fn copy_in(data: &[u8], codeword: &mut [u8])
 pub fn copy_encode(code: usize, data: &[u8], codeword: &mut [u8]) -> u8
     ensures { λ r. ⌜ encoded r (now (codeword .exit)) ≡ copyEncodeOutcome code (now («data» .entry)) (now (codeword .entry)) ⌝ }
 {
-    if code >= CODES {
-        return UNKNOWN_CODE;
-    }
-    let row = params(code).row;
-    if data.len() != row.k / 8 {
-        return WRONG_READ;
-    }
-    if codeword.len() != row.n / 8 {
-        return WRONG_WRITTEN;
+    let asked = params(code);
+    let row = asked.row;
+    let read = or_length(asked.answer, data.len(), row.k / 8, WRONG_READ);
+    let answer = or_length(read, codeword.len(), row.n / 8, WRONG_WRITTEN);
+    if answer != ACCEPTED {
+        return answer;
     }
     copy_in(data, codeword);
     encode(code, codeword)

@@ -1,17 +1,16 @@
 -- A frame that was encoded is encoded again to itself, and what the tests of both encoders tell. Assumes nothing.
-use mathlib.Core.Bool.{Bool, true, false, not}
+use mathlib.Core.Bool.{Bool, true, false}
 use mathlib.Core.List.{List}
 use mathlib.Core.Path.{_≡_, sym, ap, _∙_}
 use Prim.Native.Nat.{ℕ, _/_}
 use borrow.Author.Tests.{eq-eqb}
 use lib.ListN.{length, take}
-use Rattle.codes.specs.Answers.{unlike}
-use Rattle.codes.specs.Codes.{Known, known, rowOf}
+use Rattle.codes.specs.Codes.{Known, rowOf}
 use Rattle.codes.specs.Frames.{encodedBytes}
-use Rattle.codes.proofs.Answers.{passed, passed-known, passed-length}
+use Rattle.codes.proofs.Answers.{all-passed, passed-known, passed-length}
 use Rattle.matrices.proofs.Encoded.{encoded-front, encoded-length}
-use Rattle.encoder.specs.Outcomes.{Encoded, encoded, encodeOutcome, copyEncodeOutcome}
-use Rattle.encoder.proofs.Answered.{encode-done}
+use Rattle.encoder.specs.Outcomes.{Encoded, encoded, copyTests, encodeOutcome, copyEncodeOutcome}
+use Rattle.encoder.proofs.Answered.{encode-frame}
 use Rattle.replay.specs.Agreement.{EncodeCompared}
 use Rattle.replay.proofs.Agreeing.{never, denies}
 
@@ -21,13 +20,12 @@ module _ (code : ℕ) (m s : List ℕ) where
 
   twice : first .answer ≡ 0 → encodeOutcome code (first .codeword) ≡ encoded 0 (first .codeword)
   twice z =
-      let t₁ = passed (not (known code)) 0 z in
-      let t₂ = passed (unlike (length m) (rowOf code .k / 8)) 1 (t₁ .1) in
-      let h : Known code = passed-known code (t₁ .0) in
-      let long : length m ≡ rowOf code .k / 8 = passed-length (length m) (rowOf code .k / 8) (t₂ .0) in
+      let q = all-passed (copyTests code (length m) (length s)) tt z in
+      let h : Known code = passed-known code (q .0) in
+      let long : length m ≡ rowOf code .k / 8 = passed-length (length m) (rowOf code .k / 8) (q .1 .0) in
       let is : first .codeword ≡ encodedBytes code m = rw (eq-eqb _ 0 z) in
-      sym (encode-done code (first .codeword) h (ap length is ∙ encoded-length code h m long)
-      (is ∙ ap (encodedBytes code) (sym (ap (take (rowOf code .k / 8)) is ∙ encoded-front code m long))))
+      encode-frame code (first .codeword) h (ap length is ∙ encoded-length code h m long)
+      ∙ ap (encoded 0) (ap (encodedBytes code) (ap (take (rowOf code .k / 8)) is ∙ encoded-front code m long) ∙ sym is)
 
   module _ (want : List ℕ) {a : ℕ} {w : List ℕ} (e : encoded a w ≡ first) where
     answered : a ≡ first .answer

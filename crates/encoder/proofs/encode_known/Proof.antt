@@ -20,7 +20,7 @@ module _ (c : tie.After-struct-known) (n : ℕ) (e : c .before .before .args .co
   asked : let a = c .before .before .args in Sized (now (a .codeword)) (generatorOf n) (a .row .k) (a .row .n - a .row .k) (a .row .«circulant_size»)
   asked =
       let s = c .before .before in
-      known-sized (s .args .code) (s .pre .0) (s .args .row) (generatorOf n) (s .pre .1 .0) (sym (ap generatorOf e)) (now (s .args .codeword)) (s .pre .1 .1)
+      known-sized (s .args .code) (s .pre .known) (s .args .row) (generatorOf n) (s .pre .is-row) (sym (ap generatorOf e)) (now (s .args .codeword)) (s .pre .long)
 
   framed : {t : List ℕ} → let a = c .before .before .args in
       t ≡ placed (now (a .codeword)) (a .row .k / 8) ((a .row .n - a .row .k) / 8)
@@ -28,20 +28,20 @@ module _ (c : tie.After-struct-known) (n : ℕ) (e : c .before .before .args .co
       → t ≡ encodedBytes (a .code) (take (rowOf (a .code) .k / 8) (now (a .codeword)))
   framed =
       let s = c .before .before in
-      known-frame (s .args .code) (s .pre .0) (s .args .row) (generatorOf n) (s .pre .1 .0) (sym (ap generatorOf e)) (now (s .args .codeword)) (s .pre .1 .1)
+      known-frame (s .args .code) (s .pre .known) (s .args .row) (generatorOf n) (s .pre .is-row) (sym (ap generatorOf e)) (now (s .args .codeword)) (s .pre .long)
 
 -- no arm is left but that of the last code
 last : (c : tie.At-match-rest) → c .before .before .before .args .code ≡ 6
 last c =
     let r = c .match .rest in
-    omega (arith, c .before .before .before .pre .0, r .1, r .0 .1, r .0 .0 .1, r .0 .0 .0 .1, r .0 .0 .0 .0 .1, r .0 .0 .0 .0 .0 .1)
+    omega (arith, c .before .before .before .pre .known, r .1, r .0 .1, r .0 .0 .1, r .0 .0 .0 .1, r .0 .0 .0 .0 .1, r .0 .0 .0 .0 .0 .1)
 
 pub encode-known-spec : {M : Type 1} → statement M
 unfolding generators
 encode-known-spec =
     tie.close
     (tie.spec
-    (λ c. rw (c .before .before .pre .1 .0) (data-low (c .before .before .args .code) (c .before .before .pre .0)))
+    (λ c. rw (c .before .before .pre .is-row) (data-low (c .before .before .args .code) (c .before .before .pre .known)))
     (λ c. search needs)
     (λ c κs. asked (c .before .before .before) 0 (c .before .before .match .keys1))
     (λ c. search needs)
