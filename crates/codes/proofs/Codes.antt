@@ -15,7 +15,7 @@ use Rattle.codes.specs.declared.ParamsAnswer.{ParamsAnswer}
 use Rattle.codes.specs.declared.MatrixTables.{MatrixTables}
 use Rattle.codes.specs.declared.«parity_iter».Block.{Block}
 use Rattle.codes.specs.declared.«parity_iter».Block.the-variants.{Ends, Empty, Identity, Permutation}
-use Rattle.codes.specs.Tables.{prototypes}
+use Rattle.codes.specs.Tables.{prototypes, phis}
 use Rattle.codes.specs.Codes.{codes, Known, known, paramsOf, tcCodes, TC, TM, rows, row, rowOf, bitsIn, checksIn, tables, tablesOf, matrixOf, prototypeOf, maxBits, maxBlock, maxChecks}
 use Rattle.codes.specs.Blocks.{byteAt, blockOf, cellBlocks, rowBlocks, lastRows}
 use Rattle.codes.specs.Edges.{edgeAt, blockEdges, blocksOf, edges}
@@ -90,16 +90,18 @@ pub tm-punctured : (code : ℕ) → TM code → 0 < rowOf code .«punctured_bits
 unfolding rows
 tm-punctured code tm = ltb→lt 0 (rowOf code .«punctured_bits») (tm-at (λ c. ltb 0 (rowOf c .«punctured_bits»)) tt code tm)
 
--- the tables of every code are there
+-- the tables of every code are there, and the first ones where it is not known
 tables-test : MatrixTables → Bool
-tables-test t = both (ltb (t .prototype) 6) (ltb (t .phi) 3)
+tables-test t = both (ltb (t .prototype) (length prototypes)) (ltb (t .phi) (length phis))
 
-pub tables-low : (code : ℕ) → Known code → (tablesOf code .prototype < 6) × (tablesOf code .phi < 3)
-unfolding tables tables-test
-tables-low code h =
-    let t = tablesOf code in
-    let a = all-at tables-test (record { prototype = 0; phi = 0 }) tables tt code h in
-    (ltb→lt (t .prototype) 6 (both-left (ltb (t .prototype) 6) (ltb (t .phi) 3) a), ltb→lt (t .phi) 3 (both-right (ltb (t .prototype) 6) (ltb (t .phi) 3) a))
+pub tables-low : (code : ℕ) {t : MatrixTables} → t ≡ tablesOf code → (t .prototype < length prototypes) × (t .phi < length phis)
+unfolding tables prototypes phis tables-test
+tables-low code {t} e =
+    let a = rw (← e) at (all-anywhere tables-test (record { prototype = 0; phi = 0 }) tt tables tt code) in
+    (
+      ltb→lt (t .prototype) (length prototypes) (both-left (ltb (t .prototype) (length prototypes)) (ltb (t .phi) (length phis)) a),
+      ltb→lt (t .phi) (length phis) (both-right (ltb (t .prototype) (length prototypes)) (ltb (t .phi) (length phis)) a)
+    )
 
 pub tables-unknown : (code : ℕ) → codes ≤ code → tablesOf code ≡ record { prototype = 0; phi = 0 }
 unfolding tables

@@ -1,7 +1,7 @@
 // The codes: their parameters and tables, and the numbers by which the library answers. (Rust: codes/mod.rs)
 ghost use mathlib.Core.Path.{_≡_};
 ghost use Rattle.codes.specs.Answers.{test, orTest, unlike};
-ghost use Rattle.codes.specs.Codes.{Known, rowOf, paramsOf, prototypeOf, phiOf};
+ghost use Rattle.codes.specs.Codes.{Known, rowOf, paramsOf, tablesOf, prototypeOf, phiOf};
 
 pub mod compact_generators;
 pub mod compact_parity_checks;
@@ -81,7 +81,7 @@ pub struct CodeParams {
     pub output_len: usize,
 }
 
-const PARAMS: [CodeParams; 7] = [
+const PARAMS: [CodeParams; CODES] = [
     CodeParams {
         n: 128,
         k: 64,
@@ -187,7 +187,7 @@ pub struct MatrixTables {
     pub phi: usize,
 }
 
-const TABLES: [MatrixTables; 7] = [
+const TABLES: [MatrixTables; CODES] = [
     MatrixTables {
         prototype: 0,
         phi: 0,
@@ -231,27 +231,32 @@ pub(crate) fn row_of(code: usize) -> CodeParams
     PARAMS[code]
 }
 
-// The prototype and the table phi of a code; the first ones where it is not known.
+// The tables of a code; the first ones where it is not known.
+fn tables_of(code: usize) -> MatrixTables
+    ensures { λ r. ⌜ r ≡ tablesOf code ⌝ }
+{
+    if code < CODES {
+        TABLES[code]
+    } else {
+        MatrixTables {
+            prototype: 0,
+            phi: 0,
+        }
+    }
+}
+
 pub fn prototype_of(code: usize) -> [[[u8; 11]; 4]; 3]
     ensures { λ r. ⌜ r ≡ prototypeOf code ⌝ }
 {
-    if code < CODES {
-        let t = TABLES[code].prototype;
-        PROTOTYPES[t]
-    } else {
-        PROTOTYPES[0]
-    }
+    let t = tables_of(code).prototype;
+    PROTOTYPES[t]
 }
 
 pub fn phi_of(code: usize) -> [[u16; 26]; 4]
     ensures { λ r. ⌜ r ≡ phiOf code ⌝ }
 {
-    if code < CODES {
-        let t = TABLES[code].phi;
-        PHI_J_K[t]
-    } else {
-        PHI_J_K[0]
-    }
+    let t = tables_of(code).phi;
+    PHI_J_K[t]
 }
 
 // The parameters of a code.
