@@ -14,7 +14,7 @@ use Rattle.maths.proofs.Triangle.{distance-over}
 use Rattle.codes.specs.Codes.{TC, rowOf}
 use Rattle.codes.specs.Edges.{edges}
 use Rattle.codes.specs.Equations.{Meets}
-use Rattle.codes.proofs.Codes.{lengths}
+use Rattle.codes.proofs.Codes.{roomy}
 use Rattle.matrices.proofs.Sizes.{tc-bits}
 use Rattle.low_weights.proofs.Distances.{near-same, wrong-noticed}
 use Rattle.report.specs.declared.Report.{Report}
@@ -90,7 +90,7 @@ module _ {code : ℕ} (tc : TC code) {frame : List ℕ} (sent : Sent code frame)
       → distance frame received + distance received output ≤ 9 → Answered code report output → report .success ≡ true → output ≡ frame
   near-success received {output = output} long near a s =
       let y = succeeded a s in
-      let whole : rowOf code .«output_len» ≡ rowOf code .n / 8 = omega (arith, lengths code (omega arith) .output, tc-bits code tc) in
+      let whole : rowOf code .«output_len» ≡ rowOf code .n / 8 = omega (arith, roomy code (omega arith) .whole, tc-bits code tc) in
       let over = distance-over frame received output (sender.sent-length sent ∙ sym long) in
       sym (near-same code tc frame output (sender.sent-length sent) sent-meets (y .meets) (y .long ∙ whole) (sender.sent-bytes sent) (y .bytes) (omega arith))
 

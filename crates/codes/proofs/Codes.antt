@@ -16,60 +16,46 @@ use Rattle.codes.specs.declared.MatrixTables.{MatrixTables}
 use Rattle.codes.specs.declared.«parity_iter».Block.{Block}
 use Rattle.codes.specs.declared.«parity_iter».Block.the-variants.{Ends, Empty, Identity, Permutation}
 use Rattle.codes.specs.Tables.{prototypes, phis}
-use Rattle.codes.specs.Codes.{codes, Known, known, paramsOf, tcCodes, TC, TM, rows, row, rowOf, bitsIn, checksIn, tables, tablesOf, matrixOf, prototypeOf, maxBits, maxBlock, maxChecks}
+use Rattle.codes.specs.Codes.{codes, Known, known, paramsOf, tcCodes, TC, TM, rows, row, rowOf, bitsIn, checksIn, circulantOf, tables, tablesOf, matrixOf, prototypeOf, maxBits, maxBlock, maxChecks}
 use Rattle.codes.specs.Blocks.{byteAt, blockOf, cellBlocks, rowBlocks, lastRows}
 use Rattle.codes.specs.Edges.{edgeAt, blockEdges, blocksOf, edges}
 use Rattle.codes.specs.Sound.{Sized, Small, Roomy}
 
-size-test : CodeParams → Bool
-size-test r =
-    let m = r .«submatrix_size» in
-    both (leb 16 m) (both (leb m maxBlock) (eqb (m % 4) 0))
+-- a length of every row, and of the zeros of a code that is not known, is at most so much
+pub row-most : (length : CodeParams → ℕ) (most : ℕ) → T (leb (length (row 0 0 0 0 0 0)) most) → T (all (λ r. leb (length r) most) rows)
+    → (code : ℕ) → length (rowOf code) ≤ most
+row-most length most z h code = leb→le (length (rowOf code)) most (all-anywhere (λ r. leb (length r) most) (row 0 0 0 0 0 0) z rows h code)
 
-pub sized : (code : ℕ) → Known code → Sized (rowOf code .«submatrix_size»)
-unfolding rows size-test
-sized code h =
-    let m = rowOf code .«submatrix_size» in
-    let a = all-at size-test (row 0 0 0 0 0 0) rows tt code h in
-    let b = both-right (leb 16 m) (both (leb m maxBlock) (eqb (m % 4) 0)) a in
-    record {
-      low = leb→le 16 m (both-left (leb 16 m) (both (leb m maxBlock) (eqb (m % 4) 0)) a);
-      high = leb→le m maxBlock (both-left (leb m maxBlock) (eqb (m % 4) 0) b);
-      four = eqb→eq (m % 4) 0 (both-right (leb m maxBlock) (eqb (m % 4) 0) b);
-    }
+-- a number of every known code is at least so much
+least : (f : ℕ → ℕ) (n : ℕ) → T (below codes (λ c. leb n (f c))) → (code : ℕ) → Known code → n ≤ f code
+least f n t code h = leb→le n (f code) (below-at codes (λ c. leb n (f c)) t code h)
 
--- the four lengths of a row follow from its other numbers
-pub record Lengths (r : CodeParams) : Type 0 where
-  pub bit-flipping : r .«decode_bf_working_len» ≡ r .n + r .«punctured_bits»
-  pub min-sum : r .«decode_ms_working_len» ≡ 2 * r .«paritycheck_sum» + 3 * (r .n + r .«punctured_bits») - 2 * r .k
-  pub signs : r .«decode_ms_working_u8_len» ≡ (r .n + r .«punctured_bits» - r .k) / 8
-  pub output : r .«output_len» ≡ (r .n + r .«punctured_bits») / 8
-
-pub lengths : (code : ℕ) → Known code → Lengths (rowOf code)
-unfolding rows
-lengths code h =
-    record {
-      bit-flipping = below-eq codes (λ c. rowOf c .«decode_bf_working_len») bitsIn tt code h;
-      min-sum =
-          below-eq codes (λ c. rowOf c .«decode_ms_working_len») (λ c. 2 * rowOf c .«paritycheck_sum» + 3 * bitsIn c - 2 * rowOf c .k) tt code h;
-      signs = below-eq codes (λ c. rowOf c .«decode_ms_working_u8_len») (λ c. checksIn c / 8) tt code h;
-      output = below-eq codes (λ c. rowOf c .«output_len») (λ c. bitsIn c / 8) tt code h;
-    }
-
--- the buffers that are made for all codes serve each of them
+-- the facts about the rows, each by one test of them all
 pub roomy : (code : ℕ) → Known code → Roomy (rowOf code)
 unfolding rows
 roomy code h =
     record {
-      bits = leb→le (bitsIn code) maxBits (below-at codes (λ c. leb (bitsIn c) maxBits) tt code h);
-      checks = leb→le (checksIn code) maxChecks (below-at codes (λ c. leb (checksIn c) maxChecks) tt code h);
+      bits = row-most (λ r. r .n + r .«punctured_bits») maxBits tt tt code;
+      checks = row-most (λ r. r .n + r .«punctured_bits» - r .k) maxChecks tt tt code;
+      block = record {
+        low = least (λ c. rowOf c .«submatrix_size») 16 tt code h;
+        high = row-most (λ r. r .«submatrix_size») maxBlock tt tt code;
+        four = below-eq codes (λ c. rowOf c .«submatrix_size» % 4) (λ c. 0) tt code h;
+      };
       k-low = leb→le (rowOf code .k) (rowOf code .n) (below-at codes (λ c. leb (rowOf c .k) (rowOf c .n)) tt code h);
       data-bytes = below-eq codes (λ c. 8 * (rowOf c .k / 8)) (λ c. rowOf c .k) tt code h;
       sent = below-eq codes (λ c. 8 * (rowOf c .n / 8)) (λ c. rowOf c .n) tt code h;
       whole = below-eq codes (λ c. 8 * rowOf c .«output_len») bitsIn tt code h;
-      working = lengths code h .bit-flipping;
+      signs = below-eq codes (λ c. 8 * rowOf c .«decode_ms_working_u8_len») checksIn tt code h;
+      working = below-eq codes (λ c. rowOf c .«decode_bf_working_len») bitsIn tt code h;
       soft-working = below-eq codes (λ c. rowOf c .«decode_ms_working_len») (λ c. 2 * rowOf c .«paritycheck_sum» + bitsIn c + 2 * checksIn c) tt code h;
+      circulant = least circulantOf 8 tt code h;
+      data-circulants = below-eq codes (λ c. rowOf c .k / circulantOf c * circulantOf c) (λ c. rowOf c .k) tt code h;
+      parity-circulants = below-eq codes (λ c. (rowOf c .n - rowOf c .k) / circulantOf c * circulantOf c) (λ c. rowOf c .n - rowOf c .k) tt code h;
     }
+
+pub sized : (code : ℕ) → Known code → Sized (rowOf code .«submatrix_size»)
+sized code h = roomy code h .block
 
 -- every bit of a TC code is sent
 pub tc-sent : (code : ℕ) → TC code → rowOf code .«punctured_bits» ≡ 0
@@ -97,10 +83,9 @@ tables-test t = both (ltb (t .prototype) (length prototypes)) (ltb (t .phi) (len
 pub tables-low : (code : ℕ) {t : MatrixTables} → t ≡ tablesOf code → (t .prototype < length prototypes) × (t .phi < length phis)
 unfolding tables prototypes phis tables-test
 tables-low code {t} e =
-    let a = rw (← e) at (all-anywhere tables-test (record { prototype = 0; phi = 0 }) tt tables tt code) in
-    (
+    let a = rw (← e) at (all-anywhere tables-test (record { prototype = 0; phi = 0 }) tt tables tt code) in (
       ltb→lt (t .prototype) (length prototypes) (both-left (ltb (t .prototype) (length prototypes)) (ltb (t .phi) (length phis)) a),
-      ltb→lt (t .phi) (length phis) (both-right (ltb (t .prototype) (length prototypes)) (ltb (t .phi) (length phis)) a)
+      ltb→lt (t .phi) (length phis) (both-right (ltb (t .prototype) (length prototypes)) (ltb (t .phi) (length phis)) a),
     )
 
 pub tables-unknown : (code : ℕ) → codes ≤ code → tablesOf code ≡ record { prototype = 0; phi = 0 }

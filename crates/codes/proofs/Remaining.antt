@@ -129,7 +129,7 @@ start-law code ps h (some p d e) =
 begin-by : (code : ℕ) (b : Bool) → known code ≡ b
     → remaining (startAt code (headOf (pick b (blocks (prototypeOf code)) []))) ≡ flatMap (blockEdges (matrixOf code)) (pick b (blocks (prototypeOf code)) [])
 unfolding remaining flatMap
-begin-by code true e = start-law code _ (ltb-true code 7 e) (headed-all (prototypeOf code))
+begin-by code true e = start-law code _ (ltb-true code codes e) (headed-all (prototypeOf code))
 begin-by code false e = rw e
 
 pub begin : (code : ℕ) → remaining (newOf code) ≡ edges code
@@ -143,7 +143,7 @@ inside-of w t =
     let c = both-right (ltb (w .col) 11) _ b in
     let d = both-right (ltb (w .layer) 3) _ c in
     record {
-      code-low = ltb→lt (w .code) 7 (both-left (known (w .code)) _ t);
+      code-low = ltb→lt (w .code) codes (both-left (known (w .code)) _ t);
       row-low = ltb→lt (w .row) 4 (both-left (ltb (w .row) 4) _ a);
       col-low = ltb→lt (w .col) 11 (both-left (ltb (w .col) 11) _ b);
       layer-low = ltb→lt (w .layer) 3 (both-left (ltb (w .layer) 3) _ c);

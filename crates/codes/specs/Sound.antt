@@ -6,7 +6,7 @@ use Rattle.codes.specs.declared.CodeParams.{CodeParams}
 use Rattle.codes.specs.declared.«parity_iter».Block.{Block}
 use Rattle.codes.specs.declared.«parity_iter».Block.the-variants.{Ends, Empty, Identity, Permutation}
 
--- the size of a block: at least 16, at most 512, and a multiple of 4
+-- the size of a block: not too small, not too large, and a multiple of 4
 pub record Sized (m : ℕ) : Type 0 where
   pub low : 16 ≤ m
   pub high : m ≤ maxBlock
@@ -19,14 +19,19 @@ Small Empty = Unit
 Small (Identity v) = v < 64
 Small (Permutation v) = v < 26
 
--- what the functions ask of a row: its bits and checks fit the arrays that are made for them, its bytes are whole, and the working buffers
--- have a number for each bit, or two for each edge, one for each bit and two for each check
+-- what holds of every known row: its bits and checks fit the arrays that are made for them, its bytes are whole, the working buffers have
+-- a number for each bit, or two for each edge, one for each bit and two for each check, and data and parity are made of circulants
 pub record Roomy (r : CodeParams) : Type 0 where
   pub bits : r .n + r .«punctured_bits» ≤ maxBits
   pub checks : r .n + r .«punctured_bits» - r .k ≤ maxChecks
+  pub block : Sized (r .«submatrix_size»)
   pub k-low : r .k ≤ r .n
   pub data-bytes : 8 * (r .k / 8) ≡ r .k
   pub sent : 8 * (r .n / 8) ≡ r .n
   pub whole : 8 * r .«output_len» ≡ r .n + r .«punctured_bits»
+  pub signs : 8 * r .«decode_ms_working_u8_len» ≡ r .n + r .«punctured_bits» - r .k
   pub working : r .«decode_bf_working_len» ≡ r .n + r .«punctured_bits»
   pub soft-working : r .«decode_ms_working_len» ≡ 2 * r .«paritycheck_sum» + (r .n + r .«punctured_bits») + 2 * (r .n + r .«punctured_bits» - r .k)
+  pub circulant : 8 ≤ r .«circulant_size»
+  pub data-circulants : r .k / r .«circulant_size» * r .«circulant_size» ≡ r .k
+  pub parity-circulants : (r .n - r .k) / r .«circulant_size» * r .«circulant_size» ≡ r .n - r .k

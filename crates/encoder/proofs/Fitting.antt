@@ -6,7 +6,7 @@ use Prim.Native.Nat.{ℕ, zero, suc, _+_, _*_, _/_, _^_, _≤_, _<_}
 use native.Mathlib.Nat.{mul-zero, suc-mul, mul-assoc, mul-le-mul-right, eq-zero-or-pos}
 use native.Mathlib.Omega.{arith}
 use lib.ListN.{length}
-use Rattle.encoder.specs.Sizes.{Laid, Sized}
+use Rattle.encoder.specs.Sizes.{Laid, Parts}
 
 -- i blocks of len and one more are within n of them, where i is below n
 pub block-low : (i n len : ℕ) → i < n → i * len + len ≤ n * len
@@ -16,7 +16,7 @@ block-low i n len h = omega (arith, suc-mul i len, mul-le-mul-right {m = suc i} 
 pub bit-low : {s g : List ℕ} {at b rows words : ℕ} → Laid s g at b rows words → (i o : ℕ) → i < rows → o < b → i * b + o < at * 8
 bit-low {b} {rows} l i o h ho = omega (arith, block-low i rows b h, l .data-low)
 
-module _ {s g : List ℕ} {k r b : ℕ} (z : Sized s g k r b) where
+module _ {s g : List ℕ} {k r b : ℕ} (z : Parts s g k r b) where
   -- a whole number of blocks is a whole number of bytes
   whole : (n : ℕ) → n ≡ n / b * b → n ≡ n / b * (b / 8) * 8
   whole n e = e ∙ ap (λ (x : ℕ). n / b * x) (z .bytes) ∙ sym (mul-assoc (n / b) (b / 8) 8)

@@ -16,41 +16,41 @@ use Rattle.codes.specs.Codes.{codes, Known, rows, rowOf, generatorOf, circulant
 use Rattle.codes.specs.Frames.{parity, generator, generatorBit, encodedBytes}
 use Rattle.codes.proofs.Codes.{roomy}
 use Rattle.encoder.specs.Rotation.{placed}
-use Rattle.encoder.specs.Sizes.{Sized}
+use Rattle.encoder.specs.Sizes.{Parts}
 use Rattle.encoder.proofs.Packed.{pack-ext}
 use Rattle.encoder.proofs.Staged.{parity-ext}
 
--- the parity bits of a code
-abbrev parityOf : ℕ → ℕ
-parityOf code = rowOf code .n - rowOf code .k
+-- how many parity bits a code has
+abbrev parityBits : ℕ → ℕ
+parityBits code = rowOf code .n - rowOf code .k
 
 pub data-low : (code : ℕ) → Known code → rowOf code .k ≤ rowOf code .n
 data-low code h = roomy code h .k-low
 
-bytes-all : (code : ℕ) → Known code → rowOf code .n / 8 ≡ rowOf code .k / 8 + parityOf code / 8
+bytes-all : (code : ℕ) → Known code → rowOf code .n / 8 ≡ rowOf code .k / 8 + parityBits code / 8
 bytes-all code h = let r = roomy code h in omega (arith, r .k-low, r .sent, r .data-bytes)
 
-pub sized : (code : ℕ) → Known code → (s : List ℕ) → length s ≡ rowOf code .n / 8 → Sized s (generatorOf code) (rowOf code .k) (parityOf code) (circulantOf code)
+parts : (code : ℕ) → Known code → (s : List ℕ) → length s ≡ rowOf code .n / 8 → Parts s (generatorOf code) (rowOf code .k) (parityBits code) (circulantOf code)
 unfolding rows generators span
-sized code h s e =
+parts code h s e =
     record {
-      some = leb→le 8 (parityOf code) (below-at codes (λ c. leb 8 (parityOf c)) tt code h);
+      some = leb→le 8 (parityBits code) (below-at codes (λ c. leb 8 (parityBits c)) tt code h);
       bytes = span-same circulantOf (λ c. circulantOf c / 8 * 8) codes refl code h;
-      rows = span-same (λ c. rowOf c .k) (λ c. rowOf c .k / circulantOf c * circulantOf c) codes refl code h;
-      blocks = span-same parityOf (λ c. parityOf c / circulantOf c * circulantOf c) codes refl code h;
-      words = span-same parityOf (λ c. parityOf c / 64 * 64) codes refl code h;
+      rows = sym (roomy code h .data-circulants);
+      blocks = sym (roomy code h .parity-circulants);
+      words = span-same parityBits (λ c. parityBits c / 64 * 64) codes refl code h;
       whole = e ∙ bytes-all code h;
-      generator = span-same (λ c. length (generatorOf c)) (λ c. rowOf c .k / circulantOf c * (parityOf c / 64)) codes refl code h;
+      generator = span-same (λ c. length (generatorOf c)) (λ c. rowOf c .k / circulantOf c * (parityBits c / 64)) codes refl code h;
     }
 
 -- the parity bits placed behind the data are the frame
 pub placed-frame : (code : ℕ) → Known code → (s : List ℕ) → length s ≡ rowOf code .n / 8
-    → placed s (rowOf code .k / 8) (parityOf code / 8) (parity (circulantOf code) (rowOf code .k) (generator code) (bitAt s))
+    → placed s (rowOf code .k / 8) (parityBits code / 8) (parity (circulantOf code) (rowOf code .k) (generator code) (bitAt s))
     ≡ encodedBytes code (take (rowOf code .k / 8) s)
 unfolding placed encodedBytes
 placed-frame code h s e =
     let k8 = rowOf code .k / 8 in
-    let r8 = parityOf code / 8 in
+    let r8 = parityBits code / 8 in
     let rest : drop (k8 + r8) s ≡ [] = drop-of-length-le s {i = k8 + r8} (omega (arith, bytes-all code h)) in
     ap₂ (λ (x y : List ℕ). take k8 s ++ (x ++ y))
     (pack-ext _ _ r8 (λ j l. ap (λ (x : ℕ). x % 2) (parity-ext (circulantOf code) (rowOf code .k) (generator code) (bitAt s) (bitAt (take k8 s)) same j)))
@@ -62,8 +62,8 @@ placed-frame code h s e =
 
 -- ---- by a row and words that are the code's
 module _ (code : ℕ) (h : Known code) (row : CodeParams) (g : List ℕ) (is-row : row ≡ rowOf code) (is-words : g ≡ generatorOf code) (s : List ℕ) (e : length s ≡ rowOf code .n / 8) where
-  pub known-sized : Sized s g (row .k) (row .n - row .k) (row .«circulant_size»)
-  known-sized = rw (is-row, is-words) (sized code h s e)
+  pub known-parts : Parts s g (row .k) (row .n - row .k) (row .«circulant_size»)
+  known-parts = rw (is-row, is-words) (parts code h s e)
 
   pub known-frame : {t : List ℕ}
       → t ≡ placed s (row .k / 8) ((row .n - row .k) / 8) (parity (row .«circulant_size») (row .k) (generatorBit ((row .n - row .k) / 64) g) (bitAt s))

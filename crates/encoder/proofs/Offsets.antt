@@ -8,14 +8,14 @@ use Rattle.maths.specs.Bits.{bitAt}
 use Rattle.codes.specs.Frames.{parity, generatorBit}
 use Rattle.encoder.specs.Rotation.{placed, bitsFrom}
 use Rattle.encoder.specs.Rows.{added, rowsAt, blocksTurned}
-use Rattle.encoder.specs.Sizes.{Laid, Sized}
+use Rattle.encoder.specs.Sizes.{Laid, Parts}
 use Rattle.encoder.proofs.Placed.{length-placed}
 use Rattle.encoder.proofs.Adding.{length-added}
 use Rattle.encoder.proofs.Fitting.{some-bits, block-bits, row-bytes, blocks-bytes, blocks-bits, data-bits, part-low, laid}
 use Rattle.encoder.proofs.Staged.{Staged, staged-none, staged-more, staged-all, cleared-same, cleared-parity}
 
 -- t is the string s with its parity part cleared
-module _ {s g : List ℕ} {k r b : ℕ} (z : Sized s g k r b) {t : List ℕ} (cleared : t ≡ placed s (k / 8) (r / 8) (λ j. 0)) where
+module _ {s g : List ℕ} {k r b : ℕ} (z : Parts s g k r b) {t : List ℕ} (cleared : t ≡ placed s (k / 8) (r / 8) (λ j. 0)) where
   pub cleared-long : length t ≡ length s
   cleared-long = ap length cleared ∙ length-placed s (k / 8) (r / 8) (part-low z) (λ j. 0)
 

@@ -20,7 +20,7 @@ pub record Laid (s g : List ℕ) (at b rows words : ℕ) : Type 0 where
   pub fits : at * 8 < 2 ^ 64
 
 -- k data bits and r parity bits, not none, in blocks of b bits, whole bytes each, and a row of r / 64 words for each block of data
-pub record Sized (s g : List ℕ) (k r b : ℕ) : Type 0 where
+pub record Parts (s g : List ℕ) (k r b : ℕ) : Type 0 where
   pub some : 8 ≤ r
   pub bytes : b ≡ b / 8 * 8
   pub rows : k ≡ k / b * b

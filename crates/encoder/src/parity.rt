@@ -6,7 +6,7 @@ ghost use Rattle.maths.specs.Bits.{bitAt};
 ghost use Rattle.codes.specs.Frames.{parity, generatorBit};
 ghost use Rattle.encoder.specs.Rotation.{placed, bitsFrom};
 ghost use Rattle.encoder.specs.Rows.{added, wordBit, rowsAt, blocksTurned};
-ghost use Rattle.encoder.specs.Sizes.{Laid, Sized};
+ghost use Rattle.encoder.specs.Sizes.{Laid, Parts};
 use crate::rotation::rotate_block;
 
 // Clears the len bytes from at on.
@@ -89,7 +89,7 @@ fn rotate_blocks(codeword: &mut [u8], at: usize, len: usize, blocks: usize)
 
 // Puts the r parity bits behind the k data bits: each offset adds its rows, and the left turn of every block stands for the right turn of the rows to come.
 pub(crate) fn encode_parity(codeword: &mut [u8], g: &[u64], k: usize, r: usize, b: usize)
-    requires { ⌜ Sized (now codeword) (now g) k r b ⌝ }
+    requires { ⌜ Parts (now codeword) (now g) k r b ⌝ }
     ensures { λ _. ⌜ now (codeword .exit) ≡ placed (now (codeword .entry)) (k / 8) (r / 8) (parity b k (generatorBit (r / 64) (now (g .entry))) (bitAt (now (codeword .entry)))) ⌝ }
 {
     let at = k / 8;

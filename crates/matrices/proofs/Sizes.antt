@@ -2,10 +2,10 @@
 use mathlib.Core.Path.{_≡_}
 use Prim.Native.Nat.{ℕ, _-_, _*_, _/_, _%_, _≤_, _<_}
 use native.Mathlib.Omega.{arith}
-use lib.Dec.{ltb, leb, ltb→lt, leb→le}
+use lib.Dec.{leb, leb→le}
 use Rattle.maths.proofs.Tests.{below-at, below-eq}
-use Rattle.codes.specs.Codes.{codes, Known, tcCodes, TC, matrixOf, rowOf, rows, bitsIn, checksIn, circulantOf}
-use Rattle.codes.proofs.Codes.{sized, roomy}
+use Rattle.codes.specs.Codes.{codes, Known, TC, matrixOf, rowOf, rows, bitsIn, checksIn, circulantOf}
+use Rattle.codes.proofs.Codes.{roomy, tc-sent}
 
 abbrev pub sizeOf : ℕ → ℕ
 sizeOf code = matrixOf code .size
@@ -49,25 +49,23 @@ pub record Sizes (code : ℕ) : Type 0 where
 pub sizes : (code : ℕ) → Known code → Sizes code
 unfolding rows
 sizes code h =
-    let size = sized code h in
     let room = roomy code h in
     record {
-      some = ltb→lt 0 (circulantOf code) (below-at codes (λ c. ltb 0 (circulantOf c)) tt code h);
+      some = omega (arith, room .circulant);
       whole = below-eq codes sizeOf (λ c. sizeOf c / circulantOf c * circulantOf c) tt code h;
-      large = omega (arith, size .low);
-      four = size .four;
+      large = omega (arith, room .block .low);
+      four = room .block .four;
       rows-fit = leb→le (checksIn code) (4 * sizeOf code) (below-at codes (λ c. leb (checksIn c) (4 * sizeOf c)) tt code h);
       columns-fit = leb→le (bitsIn code) (11 * sizeOf code) (below-at codes (λ c. leb (bitsIn c) (11 * sizeOf c)) tt code h);
-      data-blocks = below-eq codes (λ c. dataBlocks c * circulantOf c) (λ c. rowOf c .k) tt code h;
+      data-blocks = room .data-circulants;
       check-blocks = below-eq codes (λ c. checkBlocks c * circulantOf c) checksIn tt code h;
       bit-blocks = below-eq codes (λ c. bitBlocks c * circulantOf c) bitsIn tt code h;
-      parity-blocks = below-eq codes (λ c. parityBlocks c * circulantOf c) (λ c. rowOf c .n - rowOf c .k) tt code h;
+      parity-blocks = room .parity-circulants;
       data-bytes = omega (arith, room .data-bytes);
-      parity-bytes = below-eq codes (λ c. parityBytes c * 8) (λ c. rowOf c .n - rowOf c .k) tt code h;
+      parity-bytes = omega (arith, room .data-bytes, room .sent, room .k-low);
       data-fits = room .k-low;
     }
 
 -- every bit of a TC code is sent, in whole bytes
 pub tc-bits : (code : ℕ) → TC code → 8 * (rowOf code .n / 8) ≡ bitsIn code
-unfolding rows
-tc-bits code tc = below-eq tcCodes (λ c. 8 * (rowOf c .n / 8)) bitsIn tt code tc
+tc-bits code tc = omega (arith, roomy code (omega arith) .sent, tc-sent code tc)

@@ -9,7 +9,7 @@ use Rattle.codes.specs.Codes.{phiOf}
 
 -- a term of a block: the identity turned right by a number of columns, or the permutation with a number
 pub data Term : Type 0 where
-  turned : ℕ → Term
+  identity : ℕ → Term
   permuted : ℕ → Term
 
 -- a block: the sum of its terms modulo 2
@@ -22,7 +22,7 @@ O = []
 
 -- the identity turned right by s columns, Φ^s
 abbrev pub Φ : ℕ → Cell
-Φ s = turned s ∷ []
+Φ s = identity s ∷ []
 
 -- the identity
 abbrev pub I : Cell
@@ -135,7 +135,7 @@ permutation code m k i =
 
 -- the column where row i of a term has its one
 abbrev pub column : ℕ → ℕ → Term → ℕ → ℕ
-column code m (turned s) i = (i + s) % m
+column code m (identity s) i = (i + s) % m
 column code m (permuted k) i = permutation code m k i
 
 -- the number of a block's terms that have a one at (i, j)

@@ -9,18 +9,18 @@ use Rattle.codes.specs.Words.{generators}
 use Rattle.codes.specs.Codes.{rowOf, generatorOf}
 use Rattle.codes.specs.Frames.{parity, generatorBit, encodedBytes}
 use Rattle.encoder.specs.Rotation.{placed}
-use Rattle.encoder.specs.Sizes.{Sized}
-use Rattle.encoder.proofs.Known.{data-low, known-sized, known-frame}
+use Rattle.encoder.specs.Sizes.{Parts}
+use Rattle.encoder.proofs.Known.{data-low, known-parts, known-frame}
 use borrow.Author.Needs.{needs}
 use Rattle.encoder.proofs.encode_known.Statement.{statement}
 use Rattle.encoder.proofs.encode_known.Tie as tie
 
 module _ (c : tie.After-struct-known) (n : ℕ) (e : c .before .before .args .code ≡ n) where
   -- the arm of code n has what the parity asks, and its parity is the code's frame
-  asked : let a = c .before .before .args in Sized (now (a .codeword)) (generatorOf n) (a .row .k) (a .row .n - a .row .k) (a .row .«circulant_size»)
+  asked : let a = c .before .before .args in Parts (now (a .codeword)) (generatorOf n) (a .row .k) (a .row .n - a .row .k) (a .row .«circulant_size»)
   asked =
       let s = c .before .before in
-      known-sized (s .args .code) (s .pre .known) (s .args .row) (generatorOf n) (s .pre .is-row) (sym (ap generatorOf e)) (now (s .args .codeword)) (s .pre .long)
+      known-parts (s .args .code) (s .pre .known) (s .args .row) (generatorOf n) (s .pre .is-row) (sym (ap generatorOf e)) (now (s .args .codeword)) (s .pre .long)
 
   framed : {t : List ℕ} → let a = c .before .before .args in
       t ≡ placed (now (a .codeword)) (a .row .k / 8) ((a .row .n - a .row .k) / 8)
