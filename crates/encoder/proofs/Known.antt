@@ -1,8 +1,9 @@
 -- The sizes of the codes' frames, and a frame of parity bits that is the code's. Assumes nothing.
 use mathlib.Core.List.{List, [], _++_, append-nil}
 use mathlib.Core.Path.{_≡_, refl, sym, ap, ap₂, _∙_}
-use Prim.Native.Nat.{ℕ, _+_, _-_, _*_, _/_, _%_, _≤_, _<_}
+use Prim.Native.Nat.{ℕ, zero, suc, _+_, _-_, _*_, _/_, _%_, _≤_, _<_}
 use native.Mathlib.Omega.{arith}
+use borrow.Author.Needs.{needs}
 use lib.Dec.{leb, leb→le}
 use lib.ListN.{length, take, drop, drop-of-length-le}
 use Rattle.maths.specs.Lists.{span}
@@ -16,7 +17,7 @@ use Rattle.codes.specs.Codes.{codes, Known, rows, rowOf, generatorOf, circulant
 use Rattle.codes.specs.Frames.{parity, generator, generatorBit, encodedBytes}
 use Rattle.codes.proofs.Codes.{roomy}
 use Rattle.encoder.specs.Rotation.{placed}
-use Rattle.encoder.specs.Sizes.{Parts}
+use Rattle.encoder.specs.Sizes.{Accepted, Parts}
 use Rattle.encoder.proofs.Packed.{pack-ext}
 use Rattle.encoder.proofs.Staged.{parity-ext}
 
@@ -60,12 +61,26 @@ placed-frame code h s e =
     same : (i : ℕ) → i < rowOf code .k → bitAt s i ≡ bitAt (take (rowOf code .k / 8) s) i
     same i l = sym (bitAt-take (rowOf code .k / 8) s i (omega (arith, roomy code h .data-bytes)))
 
--- ---- by a row and words that are the code's
-module _ (code : ℕ) (h : Known code) (row : CodeParams) (g : List ℕ) (is-row : row ≡ rowOf code) (is-words : g ≡ generatorOf code) (s : List ℕ) (e : length s ≡ rowOf code .n / 8) where
+-- a code that is none of those below n, as the last arm of a match says it
+abbrev NoneOf : ℕ → ℕ → Type 0
+NoneOf code zero = Unit
+NoneOf code (suc n) = NoneOf code n × (code ≡ n → ⊥)
+
+pub none-below : (code n : ℕ) → NoneOf code n → n ≤ code
+none-below code zero r = omega arith
+none-below code (suc n) (r, other) = omega (arith, none-below code n r)
+
+-- ---- a call with the row and the words of the code n
+module _ (code n : ℕ) (row : CodeParams) (s g : List ℕ) (is : code ≡ n) (words : g ≡ generatorOf n) (a : Accepted code row (length s)) where
+  is-words : g ≡ generatorOf code
+  is-words = words ∙ sym (ap generatorOf is)
+
   pub known-parts : Parts s g (row .k) (row .n - row .k) (row .«circulant_size»)
-  known-parts = rw (is-row, is-words) (parts code h s e)
+  known-parts = rw (a .is-row, is-words) (parts code (a .known) s (a .long))
 
   pub known-frame : {t : List ℕ}
       → t ≡ placed s (row .k / 8) ((row .n - row .k) / 8) (parity (row .«circulant_size») (row .k) (generatorBit ((row .n - row .k) / 64) g) (bitAt s))
       → t ≡ encodedBytes code (take (rowOf code .k / 8) s)
-  known-frame f = (rw (is-row, is-words) at f) ∙ placed-frame code h s e
+  known-frame f = (rw (a .is-row, is-words) at f) ∙ placed-frame code (a .known) s (a .long)
+
+pub ruleset framing = (known-parts, known-frame, needs)

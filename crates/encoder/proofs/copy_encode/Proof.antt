@@ -10,7 +10,10 @@ use Rattle.encoder.proofs.copy_encode.Tie as tie
 
 -- the start, seen from where the tests were run, and the answer of the tests
 abbrev start : tie.After-or-length2 → tie.Start
-start c = let asked = c .before .before .before .before .before in asked .before .before .before
+start c =
+    let read = c .before .before in
+    let asked = read .before .before .before in
+    asked .before .before .before
 
 answer : (c : tie.After-or-length2) → c .or-length2 .result ≡ firstOf (copyTests (start c .args .code) (length (now (start c .args .«data»))) (length (now (start c .args .codeword))))
 answer c =
@@ -32,7 +35,8 @@ copy-encode-spec =
     (λ c. search needs)
     (λ c.
     let encoded = c .before .before in
-    let copied = encoded .before .before .before .before in
+    let given = encoded .before .before in
+    let copied = given .before .before in
     let tested = copied .before .before .before in
     let a = start tested .args in
     copy-done (a .code) (now (a .«data»)) (now (a .codeword)) (answer tested) _ _ _ (copied .before .before .if1 .left) (encoded .encode .ensures) (copied .copy-in .ensures)))

@@ -8,6 +8,7 @@ use borrow.Author.Needs.{needs}
 use Rattle.encoder.proofs.copy_in.Statement.{statement}
 use Rattle.encoder.proofs.copy_in.Tie as tie
 
+-- the first i bytes are copied
 abbrev Inv-loop : tie.InvT-loop
 Inv-loop «data» codeword₀ i₀ i-end codeword i = (i-end ≡ length «data») × Copied «data» codeword₀ i codeword
 

@@ -9,6 +9,7 @@ use borrow.Author.Needs.{needs}
 use Rattle.encoder.proofs.parity.add_row.Statement.{statement}
 use Rattle.encoder.proofs.parity.add_row.Tie as tie
 
+-- the first i words are added
 abbrev Inv-loop : tie.InvT-loop
 Inv-loop codeword₀ at g c words from i₀ codeword i = Grown codeword₀ at (words * 8) (sums codeword₀ at (generatorBit words g c)) (i * 8) codeword
 
@@ -37,9 +38,10 @@ add-row-spec =
     (λ c. search needs)
     (λ c.
     let w = c .before .before in
-    let t = w .before .before .before .before in
+    let i = w .before .before .before in
+    let t = i .before in
     let a = t .before .before .before .args in
-    row-more (now (a .codeword)) (a .at) (now (a .g)) (a .c) (a .words) (t .loop .i) (t .loop .inv) (w .before .before .before .loop-test .taken) (w .add-word .ensures))
+    row-more (now (a .codeword)) (a .at) (now (a .g)) (a .c) (a .words) (t .loop .i) (t .loop .inv) (i .loop-test .taken) (w .add-word .ensures))
     (λ c. c .before .loop .inv .long)
     (λ c.
     let t = c .before in

@@ -10,15 +10,19 @@ use borrow.Author.Needs.{needs}
 use Rattle.encoder.proofs.parity.add_rows.Statement.{statement}
 use Rattle.encoder.proofs.parity.add_rows.Tie as tie
 
+-- the rows below c are added whose data bit is set
 abbrev Inv-loop : tie.InvT-loop
 Inv-loop codeword₀ at g o b rows words c₀ codeword c = (c ≤ rows) × Rowed codeword₀ at (words * 8) b (generatorBit words g) o c codeword
 
 abbrev μ-loop : tie.MeasureT-loop
 μ-loop codeword₀ at g o b rows words c₀ codeword c = rows - c
 
--- the data bit of the row is before the parity part
-low : (c : tie.In-loop Inv-loop μ-loop) → let a = c .before .before .before .before .args in c .before .loop .c * a .b + a .o < a .at * 8
-low c = let s = c .before .before .before .before in bit-low (s .pre .1) (c .before .loop .c) (s .args .o) (c .loop-test .taken) (s .pre .0)
+-- the entry, seen from inside the loop, and that the data bit of the row is before the parity part
+abbrev entry : tie.In-loop Inv-loop μ-loop → tie.Start Inv-loop μ-loop
+entry c = let known = c .before .before in known .before .before
+
+low : (c : tie.In-loop Inv-loop μ-loop) → c .before .loop .c * entry c .args .b + entry c .args .o < entry c .args .at * 8
+low c = let s = entry c in bit-low (s .pre .1) (c .before .loop .c) (s .args .o) (c .loop-test .taken) (s .pre .0)
 
 pub add-rows-spec : {M : Type 1} → statement M
 add-rows-spec =
@@ -30,13 +34,14 @@ add-rows-spec =
     let s = c .before .before in
     let a = s .args in
     (omega arith, rowed-none (now (a .codeword)) (a .at) (a .words * 8) (a .b) (generatorBit (a .words) (now (a .g))) (a .o) (s .pre .1 .parity-low) (λ i. c .before .slice-known .given i .fits)))
-    (λ c. omega (arith, low c, c .before .before .before .before .pre .1 .fits))
-    (λ c. omega (arith, low c, c .before .before .before .before .pre .1 .fits))
-    (λ c. omega (arith, low (c .before), c .before .before .loop .inv .1 .long, c .before .before .before .before .before .pre .1 .parity-low))
+    (λ c. omega (arith, low c, entry c .pre .1 .fits))
+    (λ c. omega (arith, low c, entry c .pre .1 .fits))
+    (λ c. omega (arith, low (c .before), c .before .before .loop .inv .1 .long, entry (c .before) .pre .1 .parity-low))
     (λ c κs. search needs)
     (λ c κs.
-    let i = c .before .before .before .before in
-    let s = i .before .before .before .before in (
+    let found = c .before .before in
+    let i = found .before .before in
+    let s = entry i in (
       omega (arith, i .before .loop .inv .1 .long, s .pre .1 .parity-low),
       omega (arith, block-low (i .before .loop .c) (s .args .rows) (s .args .words) (i .loop-test .taken), s .pre .1 .words-low),
     ))
@@ -44,7 +49,7 @@ add-rows-spec =
     (λ c. search needs)
     (λ c.
     let i = c .before .before .before in
-    let s = i .before .before .before .before in
+    let s = entry i in
     let a = s .args in
     let cw = now (a .codeword) in
     let G = generatorBit (a .words) (now (a .g)) in

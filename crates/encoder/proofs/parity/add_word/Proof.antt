@@ -8,6 +8,7 @@ use borrow.Author.Needs.{needs}
 use Rattle.encoder.proofs.parity.add_word.Statement.{statement}
 use Rattle.encoder.proofs.parity.add_word.Tie as tie
 
+-- the first i bytes of the word are added
 abbrev Inv-loop : tie.InvT-loop
 Inv-loop codeword₀ at word i₀ codeword i = Grown codeword₀ at 8 (sums codeword₀ at (wordBit word)) i codeword
 

@@ -7,6 +7,7 @@ use borrow.Author.Needs.{needs}
 use Rattle.encoder.proofs.parity.clear.Statement.{statement}
 use Rattle.encoder.proofs.parity.clear.Tie as tie
 
+-- the first i bytes are 0
 abbrev Inv-loop : tie.InvT-loop
 Inv-loop codeword₀ at len i₀ codeword i = Grown codeword₀ at len (λ (j : ℕ). 0) i codeword
 

@@ -7,6 +7,7 @@ use borrow.Author.Needs.{needs}
 use Rattle.encoder.proofs.rotation.rotate_block.Statement.{statement}
 use Rattle.encoder.proofs.rotation.rotate_block.Tie as tie
 
+-- the bytes from i on are turned, and the carry is the bit that the byte before them takes in
 abbrev Inv-loop : tie.InvT-loop
 Inv-loop codeword₀ at len carry₀ i₀ codeword carry i = Turning codeword₀ at len codeword carry i
 
