@@ -31,9 +31,10 @@ data-low code h = roomy code h .k-low
 bytes-all : (code : ℕ) → Known code → rowOf code .n / 8 ≡ rowOf code .k / 8 + parityBits code / 8
 bytes-all code h = let r = roomy code h in omega (arith, r .k-low, r .sent, r .data-bytes)
 
-parts : (code : ℕ) → Known code → (s : List ℕ) → length s ≡ rowOf code .n / 8 → Parts s (generatorOf code) (rowOf code .k) (parityBits code) (circulantOf code)
+parts : (code : ℕ) → Known code → (s g : List ℕ) → length s ≡ rowOf code .n / 8 → length g ≡ length (generatorOf code)
+    → Parts s g (rowOf code .k) (parityBits code) (circulantOf code)
 unfolding rows generators span
-parts code h s e =
+parts code h s g e words =
     record {
       some = leb→le 8 (parityBits code) (below-at codes (λ c. leb 8 (parityBits c)) tt code h);
       bytes = span-same circulantOf (λ c. circulantOf c / 8 * 8) codes refl code h;
@@ -41,7 +42,7 @@ parts code h s e =
       blocks = sym (roomy code h .parity-circulants);
       words = span-same parityBits (λ c. parityBits c / 64 * 64) codes refl code h;
       whole = e ∙ bytes-all code h;
-      generator = span-same (λ c. length (generatorOf c)) (λ c. rowOf c .k / circulantOf c * (parityBits c / 64)) codes refl code h;
+      generator = words ∙ span-same (λ c. length (generatorOf c)) (λ c. rowOf c .k / circulantOf c * (parityBits c / 64)) codes refl code h;
     }
 
 -- the parity bits placed behind the data are the frame
@@ -71,16 +72,14 @@ none-below code zero r = omega arith
 none-below code (suc n) (r, other) = omega (arith, none-below code n r)
 
 -- ---- a call with the row and the words of the code n
-module _ (code n : ℕ) (row : CodeParams) (s g : List ℕ) (is : code ≡ n) (words : g ≡ generatorOf n) (a : Accepted code row (length s)) where
-  is-words : g ≡ generatorOf code
-  is-words = words ∙ sym (ap generatorOf is)
-
-  pub known-parts : Parts s g (row .k) (row .n - row .k) (row .«circulant_size»)
-  known-parts = rw (a .is-row, is-words) (parts code (a .known) s (a .long))
+module _ (code n : ℕ) (row : CodeParams) (s g : List ℕ) (is : code ≡ n) where
+  pub known-parts : length g ≡ length (generatorOf n) → Accepted code row (length s) → Parts s g (row .k) (row .n - row .k) (row .«circulant_size»)
+  known-parts words a =
+      rw (a .is-row) (parts code (a .known) s g (a .long) (words ∙ ap (λ (c : ℕ). length (generatorOf c)) (sym is)))
 
   pub known-frame : {t : List ℕ}
       → t ≡ placed s (row .k / 8) ((row .n - row .k) / 8) (parity (row .«circulant_size») (row .k) (generatorBit ((row .n - row .k) / 64) g) (bitAt s))
-      → t ≡ encodedBytes code (take (rowOf code .k / 8) s)
-  known-frame f = (rw (a .is-row, is-words) at f) ∙ placed-frame code (a .known) s (a .long)
+      → g ≡ generatorOf n → Accepted code row (length s) → t ≡ encodedBytes code (take (rowOf code .k / 8) s)
+  known-frame f words a = (rw (a .is-row, words, ← is) at f) ∙ placed-frame code (a .known) s (a .long)
 
 pub ruleset framing = (known-parts, known-frame, needs)
