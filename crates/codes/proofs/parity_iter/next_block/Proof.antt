@@ -12,4 +12,7 @@ next-block-spec =
     (λ c. let t = c .before .before in rw (lt-ltb _ _ (t .before .before .if1 .left), lt-ltb _ _ (t .if2 .left), le-ltb _ _ (c .if3 .taken)))
     (λ c. search needs)
     (λ c κs. search needs)
-    (λ c. let t = c .before .before .before .before in rw (lt-ltb _ _ (t .before .before .if1 .left), lt-ltb _ _ (t .if2 .left), lt-ltb _ _ (c .before .before .if3 .left)) (c .layer .ensures)))
+    (λ c.
+    let l = c .before .before in
+    let t = l .before .before in
+    rw (lt-ltb _ _ (t .before .before .if1 .left), lt-ltb _ _ (t .if2 .left), lt-ltb _ _ (l .if3 .left)) (c .layer .ensures)))

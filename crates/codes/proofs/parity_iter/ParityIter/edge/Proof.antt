@@ -29,4 +29,4 @@ edge-spec =
     let p = s .pre .0 in
     rw (s .pre .1 .0) (omega (arith, product-low _ _ (p .col-low) (sized _ (p .code-low) .high), s .pre .1 .1)))
     (λ c κs. search needs)
-    (λ c. rw (c .before .before .before .before .pre .1 .0, c .next .ensures)))
+    (λ c. let known = c .before .before in rw (known .before .before .pre .1 .0, c .next .ensures)))

@@ -29,14 +29,22 @@ record At (w : ParityIter) (m : ℕ) (k : Block) : Type 0 where
   size : m ≡ matrix w .size
   block : k ≡ blockAt (matrix w .prototype) (placeOf w)
 
-at : (b : tie.After-block-of)
-    → At (b .before .before .before .before .before .before .before .before .before .args .self)
-    (b .before .before .before .before .row-of .result .«submatrix_size») (b .block-of .result)
+-- where the row was asked, and the walk, seen from the block
+abbrev asked : tie.After-block-of → tie.After-row-of
+asked b = let p = b .before .before in p .before .before
+
+abbrev walk : tie.After-block-of → ParityIter
+walk b =
+    let tested = asked b .before in
+    let rows = tested .before .before in
+    rows .before .before .args .self
+
+at : (b : tie.After-block-of) → At (walk b) (asked b .row-of .result .«submatrix_size») (b .block-of .result)
 at b =
     let p = b .before .before in
-    let r = p .before .before in
+    let r = asked b in
     let d = r .before in
-    let w = d .before .before .before .before .args .self in
+    let w = walk b in
     record {
       inside = record {
         code-low = d .before .before .before .if1 .left;
@@ -106,23 +114,32 @@ step-spec =
     (λ c. search needs)
     (λ c κs. let a = at (c .before .before .before) in (high a, (small a _ (c .before .k .given .1), low a)))
     (λ c κs.
-    let a = at (c .before .before .before .before) in
-    (a .inside, (a .size, column-low a _ (c .before .before .k .given .1) _ (rw (← a .size) (c .identity-column .ensures)))))
+    let k = c .before .before in
+    let a = at (k .before .before) in
+    (a .inside, (a .size, column-low a _ (k .k .given .1) _ (rw (← a .size) (c .identity-column .ensures)))))
     (λ c. search needs)
     (λ c κs. search needs)
-    (λ c κs. let a = at (c .before .before .before .before .before .before) in (high a, (fourth a, (small a _ (c .before .before .before .before .k2 .given .1), low a))))
     (λ c κs.
-    let a = at (c .before .before .before .before .before .before .before) in
-    let k = c .before .before .before .before .before .k2 .given in
-    (a .inside, (a .size, column-low a _ (k .1) _ (c .permutation-column .ensures ∙ permuted a (k .0 .0) (c .before .before .phi-of .ensures)))))
+    let p = c .before .before in
+    let k = p .before .before in
+    let a = at (k .before .before) in
+    (high a, (fourth a, (small a _ (k .k2 .given .1), low a))))
+    (λ c κs.
+    let f = c .before .before in
+    let k = f .before .before .before in
+    let a = at (k .before .before) in
+    (a .inside, (a .size, column-low a _ (k .k2 .given .1) _ (c .permutation-column .ensures ∙ permuted a (k .k2 .given .0 .0) (f .phi-of .ensures)))))
     (λ c. let b = c .before .before in stepped _ _ (rw (step-at (at b) _ (c .enum-told .given .1))))
     (λ c. let b = c .before .before in stepped _ _ (rw (step-at (at b) _ (c .enum-told2 .given .1))))
     (λ c.
-    let a = at (c .before .before .before .before .before) in
-    stepped _ _ (rw (step-at a _ (c .before .before .before .k .given .1), ← a .size, ← c .before .identity-column .ensures) (c .edge .ensures)))
+    let i = c .before in
+    let k = i .before .before in
+    let a = at (k .before .before) in
+    stepped _ _ (rw (step-at a _ (k .k .given .1), ← a .size, ← i .identity-column .ensures) (c .edge .ensures)))
     (λ c.
     let p = c .before in
-    let a = at (p .before .before .before .before .before .before .before) in
-    let k = p .before .before .before .before .before .k2 .given in
-    let e = p .permutation-column .ensures ∙ permuted a (k .0 .0) (p .before .before .phi-of .ensures) in
-    stepped _ _ (c .edge2 .ensures ∙ ap (nextStep _) e ∙ sym (step-at a _ (k .1)))))
+    let f = p .before .before in
+    let k = f .before .before .before in
+    let a = at (k .before .before) in
+    let e = p .permutation-column .ensures ∙ permuted a (k .k2 .given .0 .0) (f .phi-of .ensures) in
+    stepped _ _ (c .edge2 .ensures ∙ ap (nextStep _) e ∙ sym (step-at a _ (k .k2 .given .1)))))
