@@ -1,14 +1,14 @@
 -- From the list of a call's tests to its answer, and from the answer to what the call knows and leaves. Assumes nothing.
 use mathlib.Core.Bool.{Bool, true, false, not}
 use mathlib.Core.List.{List, [], _∷_}
-use mathlib.Core.Path.{_≡_, refl, _∙_}
+use mathlib.Core.Path.{_≡_, refl}
 use Prim.Native.Nat.{ℕ, zero, suc}
 use native.Mathlib.Omega.{arith}
 use borrow.Author.Tests.{ltb-true, eqb-true, ne-eqb, not-false}
 use lib.Dec.{T, eqb, ltb}
-use Rattle.maths.specs.Tests.{pick, both, all}
+use Rattle.maths.specs.Tests.{pick, all}
 use Rattle.maths.proofs.Tests.{both-left, both-right}
-use Rattle.codes.specs.Answers.{Test, test, firstOf, orTest, unlike}
+use Rattle.codes.specs.Answers.{Test, firstOf, orTest, unlike}
 use Rattle.codes.specs.Codes.{codes, Known, known}
 
 -- tests that are run one after another upon an answer, and from the first on

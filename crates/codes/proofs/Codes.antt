@@ -4,11 +4,11 @@ use mathlib.Core.List.{[]}
 use mathlib.Core.Path.{_≡_, refl, sym, _∙_, subst}
 use Prim.Native.Nat.{ℕ, _+_, _-_, _*_, _/_, _%_, _≤_, _<_}
 use native.Mathlib.Omega.{arith}
-use lib.Dec.{T, ltb, leb, eqb, ltb→lt, leb→le, eqb→eq}
+use lib.Dec.{T, ltb, leb, eqb, ltb→lt, leb→le}
 use lib.ListN.{length, getD, List·getD-eq-default}
 use borrow.Author.Tests.{ltb-true, ltb-false}
 use Rattle.maths.specs.Tests.{pick, both, all, below}
-use Rattle.maths.proofs.Tests.{both-left, both-right, all-at, all-anywhere, below-at, below-eq}
+use Rattle.maths.proofs.Tests.{both-left, both-right, all-anywhere, below-at, below-eq}
 use Rattle.maths.proofs.Lists.{span-length, flatMap-length}
 use Rattle.codes.specs.declared.CodeParams.{CodeParams}
 use Rattle.codes.specs.declared.ParamsAnswer.{ParamsAnswer}

@@ -25,9 +25,6 @@ use Rattle.encoder.proofs.Staged.{parity-ext}
 abbrev parityBits : ℕ → ℕ
 parityBits code = rowOf code .n - rowOf code .k
 
-pub data-low : (code : ℕ) → Known code → rowOf code .k ≤ rowOf code .n
-data-low code h = roomy code h .k-low
-
 bytes-all : (code : ℕ) → Known code → rowOf code .n / 8 ≡ rowOf code .k / 8 + parityBits code / 8
 bytes-all code h = let r = roomy code h in omega (arith, r .k-low, r .sent, r .data-bytes)
 

@@ -2,7 +2,8 @@ use native.Mathlib.Omega.{arith}
 use borrow.Author.Needs.{needs}
 use Rattle.codes.specs.Words.{generators}
 use Rattle.codes.specs.Codes.{codes}
-use Rattle.encoder.proofs.Known.{data-low, none-below, framing}
+use Rattle.codes.proofs.Codes.{roomy}
+use Rattle.encoder.proofs.Known.{none-below, framing}
 use Rattle.encoder.proofs.encode_known.Statement.{statement}
 use Rattle.encoder.proofs.encode_known.Tie as tie
 
@@ -11,7 +12,7 @@ unfolding generators
 encode-known-spec =
     tie.close
     (tie.spec
-    (λ c. let a = c .before .before .pre in rw (a .is-row) (data-low _ (a .known)))
+    (λ c. let a = c .before .before .pre in rw (a .is-row) (roomy _ (a .known) .k-low))
     (λ c. search needs)
     (λ c κs. search framing)
     (λ c. search needs)
