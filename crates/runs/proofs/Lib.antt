@@ -4,5 +4,6 @@ pub mod Filled
 pub mod Flat
 pub mod Sweep
 pub mod Tally
+pub mod Loops
 pub mod Parity
 pub mod Light

@@ -1,20 +1,18 @@
--- Loops over runs: the runs that a list of numbers holds, and a fold over them edge by edge. Assumes nothing.
+-- The runs that a list of numbers holds, which of them lie within, and a fold over them edge by edge. Assumes nothing.
 use mathlib.Core.Bool.{Bool, true, false}
 use mathlib.Core.List.{List, [], _∷_, flatMap}
 use mathlib.Core.Path.{_≡_, refl, sym, _∙_}
 use Prim.Native.Nat.{ℕ, zero, suc, _+_, _-_, _*_, _/_, _≤_, _<_}
-use native.Mathlib.Nat.{sub-zero}
 use native.Mathlib.Omega.{arith}
 use native.Mathlib.Decide.{decLe}
 use borrow.Author.Tests.{leb-true, le-leb, lt-leb}
 use lib.Dec.{leb}
-use lib.ListN.{length, getD, drop}
+use lib.ListN.{length, getD}
 use Rattle.maths.specs.Tests.{pick}
-use Rattle.maths.specs.Lists.{span, fold, keep}
+use Rattle.maths.specs.Lists.{fold, keep}
 use Rattle.maths.proofs.Tests.{both-first, both-second, both-false}
 use Rattle.maths.proofs.Lists.{fold-append}
-use Rattle.maths.proofs.Slices.{fold-turn, fold-end}
-use Rattle.codes.specs.Edges.{Edge, edge}
+use Rattle.codes.specs.Edges.{Edge}
 use Rattle.runs.specs.Runs.{Run, run, runEdges, within, readRuns, laid}
 use Rattle.runs.specs.Steps.{overRun}
 
@@ -75,28 +73,3 @@ module _ {S : Type 0} (m n : ℕ) (step : Edge → S → S) where
   pub over-laid : (ns : List ℕ) (s : S) → fold (overRun m n step) (readRuns ns) s ≡ fold step (laid m n ns) s
   unfolding laid
   over-laid ns s = over-kept (readRuns ns) s
-
-  -- a run that lies within, and one that does not
-  pub run-swept : (r : Run) (s : S) {s′ : S} → within m n r ≡ true → s′ ≡ fold step (runEdges r) s → s′ ≡ overRun m n step r s
-  unfolding overRun
-  run-swept r s e p = rw e p
-
-  pub run-passed : (r : Run) (s : S) → within m n r ≡ false → s ≡ overRun m n step r s
-  unfolding overRun
-  run-passed r s e = rw e
-
--- ---- a loop over one run, edge by edge
-module _ {S : Type 0} (step : Edge → S → S) (a v l : ℕ) where
-  pub run-first : (s : S) → fold step (span (λ i. edge (a + i) (v + i)) 0 (l - 0)) s ≡ fold step (runEdges (run a v l)) s
-  unfolding runEdges
-  run-first s = rw (sub-zero l)
-
--- ---- a loop over the runs of a list of numbers, of which run r stands at i: m and n are the lengths at first, k and l at present
-module _ (step : Edge → List ℕ → List ℕ) (ns : List ℕ) (m n i : ℕ) (s : List ℕ) {all : List ℕ} (inv : fold (overRun m n step) (drop i (readRuns ns)) s ≡ all) where
-  pub over-turn : {k l : ℕ} {r : Run} {s′ : List ℕ} → k ≡ m → l ≡ n → i < length ns / 3 → r ≡ getD (readRuns ns) i (run 0 0 0) → s′ ≡ overRun k l step r s
-      → fold (overRun m n step) (drop (i + 1) (readRuns ns)) s′ ≡ all
-  over-turn ek el h er es =
-      fold-turn (overRun m n step) (readRuns ns) (run 0 0 0) i s inv (omega (arith, read-length ns)) (rw (← er, ← ek, ← el) es)
-
-  pub over-end : length ns / 3 ≤ i → s ≡ all
-  over-end h = fold-end (overRun m n step) (readRuns ns) (run 0 0 0) i s inv (omega (arith, read-length ns))

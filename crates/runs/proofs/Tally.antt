@@ -13,9 +13,7 @@ use Rattle.maths.proofs.Slices.{span-is}
 use Rattle.codes.specs.Edges.{Edge}
 use Rattle.codes.specs.Equations.{ends, checkOf, bitOf, bitsOf, par}
 use Rattle.runs.specs.Meets.{syndromeOf}
-use Rattle.runs.specs.Runs.{readRuns, laid}
-use Rattle.runs.specs.Steps.{put, overRun, add2, addBit}
-use Rattle.runs.proofs.Sweep.{over-laid}
+use Rattle.runs.specs.Steps.{put, add2, addBit}
 
 -- all of vs put into x, in order
 unfoldable pub into : (ℕ → ℕ → ℕ) → (ℕ → ℕ) → List ℕ → ℕ → ℕ
@@ -59,8 +57,3 @@ added es m w =
     let l : a < length (replicate {A = ℕ} m 0) = rw (length-replicate {A = ℕ} m 0) k in
     let p : into add2 w (bitsOf es a) 0 ≡ par es w a % 2 = into-add2 w (bitsOf es a) 0 (omega arith) ∙ omega arith in
     rw z at (put-at checkOf bitOf add2 w es (replicate m 0) a l) ∙ p)
-
--- after the loop over the runs of a list
-pub syndrome-by : (ns : List ℕ) (m n : ℕ) (w : ℕ → ℕ) {k : ℕ} {s s′ : List ℕ} → s ≡ replicate m 0 → k ≡ m → s′ ≡ fold (overRun k n (addBit w)) (readRuns ns) s
-    → s′ ≡ syndromeOf (laid m n ns) m w
-syndrome-by ns m n w e ek p = p ∙ rw (e, ek) (over-laid m n (addBit w) ns (replicate m 0) ∙ added (laid m n ns) m w)
