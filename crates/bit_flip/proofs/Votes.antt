@@ -6,14 +6,16 @@ use Prim.Native.Nat.{ℕ, zero, suc, _+_, _-_, _*_, _/_, _%_, _≤_, _<_, min}
 use native.Mathlib.Decide.{ℕ-discrete, decLt}
 use native.Mathlib.Omega.{arith}
 use borrow.Author.Tests.{ne-eqb, lt-ltb, le-ltb, le-leb, lt-leb}
+use borrow.Author.Needs.{needs}
 use lib.Dec.{T, eqb, ltb, leb}
 use lib.ListN.{length, set, List·getD-eq-default}
 use Rattle.maths.specs.Tests.{pick, both, all}
-use Rattle.maths.specs.Lists.{span, fold, overwrite}
+use Rattle.maths.specs.Lists.{span, fold}
 use Rattle.maths.specs.Sums.{sumL}
 use Rattle.maths.proofs.Tests.{pick-both, both-true, both-false}
 use Rattle.maths.proofs.Lists.{span-length, span-ext, map-span}
-use Rattle.maths.proofs.Slices.{span-get, span-is, overwrite-same, overwrite-more, overwrite-all}
+use Rattle.maths.proofs.Slices.{span-get, span-is, overwrite-same}
+use Rattle.maths.proofs.Writing.{Written, written-more, written-all}
 use Rattle.codes.specs.Edges.{Edge, inRange}
 use Rattle.runs.specs.Runs.{laid}
 use Rattle.codes.specs.Equations.{checkOf, bitOf, bitsOf, checksOf, par, wordOf}
@@ -190,17 +192,28 @@ module _ (n x : ℕ) (w : List ℕ) where
   unfolding setFrom
   from-at v h = span-get (λ v. pick (leb n v) x (wordOf w v)) 0 (length w) v h
 
-  -- a loop that sets them
-  pub from-first : n ≤ length w → w ≡ overwrite (λ v. pick (leb n v) x (wordOf w v)) n w
-  from-first h = overwrite-same (λ v. pick (leb n v) x (wordOf w v)) w 0 n h (λ v k. rw (lt-leb n v k))
+-- a loop that sets them, at turn i: those before i are set
+pub record Setting (n x : ℕ) (w₀ : List ℕ) (i : ℕ) (w : List ℕ) : Type 0 where
+  pub from : n ≤ i
+  pub written : Written (λ v. pick (leb n v) x (wordOf w₀ v)) w₀ i w
 
-  pub from-more : (i : ℕ) {l : List ℕ} → n ≤ i → i < length w → l ≡ overwrite (λ v. pick (leb n v) x (wordOf w v)) i w
-      → set l i x ≡ overwrite (λ v. pick (leb n v) x (wordOf w v)) (i + 1) w
-  from-more i h k inv = overwrite-more (λ v. pick (leb n v) x (wordOf w v)) w i inv k (rw (le-leb n i h))
+module _ {n x : ℕ} {w₀ : List ℕ} where
+  pub set-begins : n ≤ length w₀ → Setting n x w₀ n w₀
+  set-begins h =
+      record {
+        from = omega arith;
+        written = record { low = h; long = refl; front = overwrite-same (λ v. pick (leb n v) x (wordOf w₀ v)) w₀ 0 n h (λ v k. rw (lt-leb n v k)) };
+      }
 
-  pub from-all : (i : ℕ) {l : List ℕ} → i ≤ length w → length w ≤ i → l ≡ overwrite (λ v. pick (leb n v) x (wordOf w v)) i w → l ≡ setFrom n x w
-  unfolding setFrom
-  from-all i h k inv = overwrite-all (λ v. pick (leb n v) x (wordOf w v)) w i inv h k
+  module _ {i k : ℕ} {w : List ℕ} (s : Setting n x w₀ i w) where
+    pub set-more : i < k → k ≡ length w₀ → Setting n x w₀ (i + 1) (set w i x)
+    set-more h e = record { from = omega (arith, s .from); written = written-more (s .written) h e (rw (le-leb n i (s .from))) }
+
+    pub set-ends : k ≤ i → k ≡ length w₀ → w ≡ setFrom n x w₀
+    unfolding setFrom
+    set-ends h e = written-all (s .written) h e
+
+pub ruleset sets = (set-begins, set-more, set-ends, needs)
 
 pub marked : (n : ℕ) (w : List ℕ) → Bits w → Marked (fromOn n (length w)) w (setFrom n 2 w)
 marked n w bits = record { bits = bits; long = from-length n 2 w; byte = λ v. go v (decLt v (length w)) }

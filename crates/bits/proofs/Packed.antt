@@ -1,16 +1,15 @@
 -- Unpacking and packing, byte by byte, and what the bits are. Assumes nothing.
 use mathlib.Core.List.{List}
-use mathlib.Core.Path.{_≡_, refl, sym, ap, _∙_, fun-ext}
+use mathlib.Core.Path.{_≡_, refl, sym, _∙_, fun-ext}
 use Prim.Native.Nat.{ℕ, suc, _+_, _*_, _-_, _/_, _%_, _^_, _≤_, _<_}
 use native.Mathlib.Decide.{decLt}
 use native.Mathlib.Omega.{arith}
 use lib.ListN.{length, getD, List·getD-eq-default}
-use lib.Seq.{sets}
 use Rattle.maths.specs.Bits.{bitAt}
 use Rattle.maths.specs.Bytes.{byte, pack}
-use Rattle.maths.specs.Lists.{span, overwrite}
+use Rattle.maths.specs.Lists.{span}
 use Rattle.maths.proofs.Bytes.{bitAt-past}
-use Rattle.maths.proofs.Slices.{overwrite-sets, overwrite-at, overwrite-all, overwrite-length}
+use Rattle.maths.proofs.Slices.{overwrite-at, overwrite-all, overwrite-length}
 use Rattle.bits.specs.Packed.{wholeBytes, eight, unpacked, packed}
 
 -- ---- unpacking: the eight bits of byte i
@@ -32,12 +31,6 @@ eight-bits s i {x} e =
     let b6 : x / 2 % 2 ≡ bitAt s (suc (suc (suc (suc (suc (suc (8 * i))))))) = place s i 6 x (suc (suc (suc (suc (suc (suc (8 * i))))))) (omega arith) (omega arith) e in
     let b7 : x % 2 ≡ bitAt s (suc (suc (suc (suc (suc (suc (suc (8 * i)))))))) = omega (arith, place s i 7 x (suc (suc (suc (suc (suc (suc (suc (8 * i)))))))) (omega arith) (omega arith) e) in
     cc
-
-pub unpack-more : (s d : List ℕ) (i : ℕ) {l l′ : List ℕ} {x : ℕ} → l ≡ overwrite (bitAt s) (8 * i) d → 8 * i + 8 ≤ length d → x ≡ getD s i 0
-    → l′ ≡ sets l (8 * i) (eight x) → l′ ≡ overwrite (bitAt s) (8 * (i + 1)) d
-unpack-more s d i {l} inv h ex e =
-    let n : 8 * (i + 1) ≡ 8 * i + 8 = omega arith in
-    e ∙ ap (sets l (8 * i)) (eight-bits s i ex) ∙ rw (inv, n) (overwrite-sets (bitAt s) d 8 (8 * i) h)
 
 -- the bits of a byte string that fills the list
 pub unpacked-word : (s d : List ℕ) → 8 * length s ≡ length d → (λ v. getD (unpacked s d) v 0) ≡ bitAt s

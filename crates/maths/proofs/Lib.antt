@@ -2,6 +2,8 @@ pub mod Tests
 pub mod Search
 pub mod Lists
 pub mod Slices
+pub mod Writing
+pub mod Mapping
 pub mod Tally
 pub mod Sums
 pub mod Digits

@@ -51,14 +51,14 @@ span-padded l n h = sym (span-is 0 (l ++ zeros) (λ i. getD l i 0) n (length-app
             rw (← e) (getD-append-add l zeros (i - length l) 0 ∙ getD-replicate {A = ℕ} (n - length l) (i - length l) 0 0 (omega arith))
             ∙ sym (List·getD-eq-default l 0 (omega arith))
 
-pub span-map : (g : ℕ → ℕ) (l : List ℕ) → span (λ i. g (getD l i 0)) 0 (length l) ≡ map g l
-span-map g l = sym (span-is 0 (map g l) _ (length l) (mapped-length l) (mapped-at l))
+pub span-map : {A : Type 0} (d : A) (g : A → A) (l : List A) → span (λ i. g (getD l i d)) 0 (length l) ≡ map g l
+span-map {A} d g l = sym (span-is d (map g l) _ (length l) (mapped-length l) (mapped-at l))
   where
-    mapped-length : (l : List ℕ) → length (map g l) ≡ length l
+    mapped-length : (l : List A) → length (map g l) ≡ length l
     mapped-length [] = refl
     mapped-length (x ∷ l) = ap suc (mapped-length l)
 
-    mapped-at : (l : List ℕ) (i : ℕ) → i < length l → getD (map g l) i 0 ≡ g (getD l i 0)
+    mapped-at : (l : List A) (i : ℕ) → i < length l → getD (map g l) i d ≡ g (getD l i d)
     mapped-at [] i h = absurd (not-suc-le-zero h)
     mapped-at (x ∷ l) zero h = refl
     mapped-at (x ∷ l) (suc i) h = mapped-at l i (le-of-suc-le-suc h)
@@ -131,20 +131,6 @@ module _ {A : Type 0} (f : ℕ → A) (d : List A) where
   overwrite-all k inv g h =
       let e : k ≡ length d = omega arith in
       inv ∙ rw (drop-of-length-le d h, e) (append-nil (span f 0 (length d)))
-
--- ---- a list whose elements are replaced in place by f, one after the other
-abbrev pub mapTo : (ℕ → ℕ) → ℕ → List ℕ → List ℕ
-mapTo f i d = overwrite (λ j. f (getD d j 0)) i d
-
-module _ (f : ℕ → ℕ) (d : List ℕ) where
-  pub map-none : d ≡ mapTo f 0 d
-  map-none = overwrite-none (λ j. f (getD d j 0)) d
-
-  pub map-more : (i : ℕ) {l : List ℕ} {v : ℕ} → l ≡ mapTo f i d → i < length d → v ≡ f (getD l i 0) → set l i v ≡ mapTo f (i + 1) d
-  map-more i inv h e = overwrite-more (λ j. f (getD d j 0)) d i inv h (e ∙ rw (inv, overwrite-next (λ j. f (getD d j 0)) d 0 i h))
-
-  pub map-all : (i : ℕ) {l : List ℕ} → l ≡ mapTo f i d → i ≤ length d → length d ≤ i → l ≡ map f d
-  map-all i inv g h = overwrite-all (λ j. f (getD d j 0)) d i inv g h ∙ span-map f d
 
 -- ---- a loop that folds a list from its first element on: inv says that folding what is left over the present state gives all
 module _ {A S : Type 0} (step : A → S → S) (xs : List A) (d : A) (i : ℕ) (s : S) {all : S} (inv : fold step (drop i xs) s ≡ all) where
