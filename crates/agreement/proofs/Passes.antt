@@ -33,7 +33,7 @@ use Rattle.bit_flip.specs.Erasures.{erasurePasses}
 use Rattle.bit_flip.specs.Outcome as flip
 use Rattle.bit_flip.specs.Steps.{Bits}
 use Rattle.bit_flip.proofs.Scores.{flipped-length, flipped-bits}
-use Rattle.bit_flip.proofs.Whole.{received-bits}
+use Rattle.bit_flip.proofs.Calls.{received-bits}
 use Rattle.min_sum.specs.Soft.{clamp, satAdd, satSub, negated, size, below0, alike, lower}
 use Rattle.min_sum.specs.Confidence.{i8}
 use Rattle.min_sum.specs.MinSum as soft

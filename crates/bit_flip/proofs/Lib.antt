@@ -1,4 +1,5 @@
 pub mod Scores
+pub mod Passing
 pub mod Votes
-pub mod Whole
+pub mod Calls
 pub mod Theorems

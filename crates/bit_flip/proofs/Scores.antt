@@ -1,7 +1,7 @@
 -- What the main passes leave in their bytes is what the definition says. Assumes nothing.
 use mathlib.Core.Bool.{Bool, true, false}
 use mathlib.Core.List.{List, [], _∷_, map}
-use mathlib.Core.Path.{_≡_, refl, sym, ap₂, _∙_}
+use mathlib.Core.Path.{_≡_, refl, ap₂, _∙_}
 use Prim.Native.Nat.{ℕ, zero, suc, _+_, _-_, _*_, _/_, _%_, _≤_, _<_, max}
 use native.Mathlib.Decide.{decLt}
 use native.Mathlib.Omega.{arith}
@@ -15,13 +15,11 @@ use Rattle.maths.proofs.Tests.{both-left, both-right, pick-both}
 use Rattle.maths.proofs.Lists.{span-length, span-ext, map-span}
 use Rattle.maths.proofs.Slices.{span-get, span-is}
 use Rattle.codes.specs.Edges.{Edge, inRange}
-use Rattle.runs.specs.Runs.{laid}
 use Rattle.codes.specs.Equations.{checkOf, bitOf, checksOf, par, wordOf}
 use Rattle.runs.specs.Meets.{holds, syndromeOf}
 use Rattle.runs.proofs.Tally.{into, put-length, put-at}
-use Rattle.runs.proofs.Parity.{none-broken, laid-ranged}
 use Rattle.bit_flip.specs.Flip.{broken, score, topScore, flipped, pass}
-use Rattle.bit_flip.specs.Steps.{twice, give, flipByte, Light, Bits}
+use Rattle.bit_flip.specs.Steps.{twice, give, flipByte, FewEdges, Bits}
 
 -- ---- what a bit is given
 into-twice : (g : ℕ → ℕ) (vs : List ℕ) (x : ℕ) → x < 256 → into twice g vs x ≡ (x + 2 * sumL vs g) % 256
@@ -77,7 +75,7 @@ flip-one top x y h =
     let q : (x + 2 * y) % 2 ≡ x = omega arith in
     rw (p, q)
 
-module _ (es : List Edge) (m n : ℕ) (w : List ℕ) (ranged : T (all (inRange m n) es)) (bits : Bits w) (light : Light es) where
+module _ (es : List Edge) (m n : ℕ) (w : List ℕ) (ranged : T (all (inRange m n) es)) (bits : Bits w) (few : FewEdges es) where
   -- each bit's byte is the bit and twice its score
   scored : {s : List ℕ} → s ≡ syndromeOf es m (wordOf w) → fold (give (wordOf s)) es w ≡ span (λ v. wordOf w v + 2 * score es w v) 0 (length w)
   unfolding score
@@ -87,7 +85,7 @@ module _ (es : List Edge) (m n : ℕ) (w : List ℕ) (ranged : T (all (inRange m
       ∙ span-ext _ _ 0 0 (length w) (λ v k.
       let l = sum-ranged m n (wordOf (syndromeOf es m (wordOf w))) (broken es w) (syndrome-at es m w) es ranged (0 + v) in
       let q = sum-few (broken es w) (broken-low es w) (checksOf es (0 + v)) in
-      rw l (omega (arith, bits (0 + v), light (0 + v)))))
+      rw l (omega (arith, bits (0 + v), few .at (0 + v)))))
 
   pub flipped-by : {s w₁ w₂ : List ℕ} {t : ℕ} → s ≡ syndromeOf es m (wordOf w) → w₁ ≡ fold (give (wordOf s)) es w → t ≡ largestOf w₁
       → w₂ ≡ map (flipByte (t / 2)) w₁ → w₂ ≡ flipped es w
@@ -118,30 +116,11 @@ flipped-bits es w bits =
 pub flipped-kept : (es : List Edge) (w : List ℕ) → Bits w → {w′ : List ℕ} → w′ ≡ flipped es w → Bits w′
 flipped-kept es w bits e = rw e (flipped-bits es w bits)
 
--- ---- one pass of the loop
-module _ (es : List Edge) (m : ℕ) (w : List ℕ) {s : List ℕ} {t : ℕ} (es-is : s ≡ syndromeOf es m (wordOf w)) (et : t ≡ largestOf s) where
-  found : eqb t 0 ≡ holds es m (wordOf w)
-  found = rw (et, es-is) (none-broken es m (wordOf w))
-
-  pub pass-stops : eqb t 0 ≡ true → pass es m w ≡ stop w
-  unfolding pass
-  pass-stops e = rw (sym found ∙ e)
-
-  pub pass-goes : eqb t 0 ≡ false → {w′ : List ℕ} → w′ ≡ flipped es w → pass es m w ≡ go w′
-  unfolding pass
-  pass-goes e f = rw (sym found ∙ e, f)
-
--- ---- over the runs of a list of numbers, where m checks and n bits keep their number
-module _ (ns : List ℕ) {k l m n : ℕ} (ek : k ≡ m) (el : l ≡ n) where
-  pub syndrome-moved : (w : List ℕ) {s : List ℕ} → s ≡ syndromeOf (laid k l ns) k (wordOf w) → s ≡ syndromeOf (laid m n ns) m (wordOf w)
-  syndrome-moved w e = rw (← ek, ← el) e
-
-  pub light-moved : Light (laid m n ns) → Light (laid k l ns)
-  light-moved h = rw (ek, el) h
-
-  pub flipped-moved : (w : List ℕ) {w′ : List ℕ} → w′ ≡ flipped (laid k l ns) w → w′ ≡ flipped (laid m n ns) w
-  flipped-moved w e = rw (← ek, ← el) e
-
-pub flip-by : (ns w : List ℕ) (m : ℕ) → Bits w → Light (laid m (length w) ns) → {s w₁ w₂ : List ℕ} {t : ℕ} → s ≡ syndromeOf (laid m (length w) ns) m (wordOf w)
-    → w₁ ≡ fold (give (wordOf s)) (laid m (length w) ns) w → t ≡ largestOf w₁ → w₂ ≡ map (flipByte (t / 2)) w₁ → w₂ ≡ flipped (laid m (length w) ns) w
-flip-by ns w m bits light = flipped-by (laid m (length w) ns) m (length w) w (laid-ranged m (length w) ns) bits light
+-- a pass that goes on has flipped
+pub gone : (es : List Edge) (m : ℕ) (s t : List ℕ) → pass es m s ≡ go t → t ≡ flipped es s
+unfolding pass
+gone es m s t = by (holds es m (wordOf s))
+  where
+    by : (b : Bool) → pick b (stop s) (go (flipped es s)) ≡ go t → t ≡ flipped es s
+    by true e = absurd (let z : _≡_ {A = ℕ} 0 1 = cc in omega arith)
+    by false e = cc

@@ -34,9 +34,9 @@ use Rattle.bit_flip.specs.Flip.{flipped, pass, passes}
 use Rattle.bit_flip.specs.Erasures.{voted, filled, erasurePasses}
 use Rattle.bit_flip.specs.Outcome.{left, decodeWord, received, punctured, decoded, tests, outcome}
 use Rattle.bit_flip.specs.Steps.{Bits}
-use Rattle.bit_flip.proofs.Scores.{flipped-length, flipped-bits}
+use Rattle.bit_flip.proofs.Scores.{flipped-length, flipped-bits, gone}
 use Rattle.bit_flip.proofs.Votes.{no-bits, no-limit}
-use Rattle.bit_flip.proofs.Whole.{received-bits, voted-length, filled-bits}
+use Rattle.bit_flip.proofs.Calls.{received-bits, voted-length, filled-bits}
 
 -- ---- bits as bytes: the same word
 packed-word : (w : List ℕ) (n : ℕ) → length w ≡ 8 * n → Bits w → bitAt (pack (wordOf w) n) ≡ wordOf w
@@ -61,25 +61,17 @@ module _ (es : List Edge) (m : ℕ) where
   unfolding pass
   clean-pass s e = rw e
 
-  gone : (s t : List ℕ) → pass es m s ≡ go t → t ≡ flipped es s
-  unfolding pass
-  gone s t = by (holds es m (wordOf s))
-    where
-      by : (b : Bool) → pick b (stop s) (go (flipped es s)) ≡ go t → t ≡ flipped es s
-      by true e = absurd (let z : _≡_ {A = ℕ} 0 1 = cc in omega arith)
-      by false e = cc
-
   passes-success : (limit : ℕ) (w : List ℕ) → passes es m limit w .success ≡ true → holds es m (wordOf (passes es m limit w .state)) ≡ true
   passes-success limit w e = run-success (pass es m) (λ s. holds es m (wordOf s) ≡ true) (λ s t q. stopped s t q .1) limit 0 w e
 
   passes-bits : (limit : ℕ) (w : List ℕ) → Bits w → Bits (passes es m limit w .state)
   passes-bits limit w h =
-      run-kept (pass es m) Bits (λ s t q b. subst Bits (stopped s t q .0) b) (λ s t q b. subst Bits (sym (gone s t q)) (flipped-bits es s b)) limit 0 w h
+      run-kept (pass es m) Bits (λ s t q b. subst Bits (stopped s t q .0) b) (λ s t q b. subst Bits (sym (gone es m s t q)) (flipped-bits es s b)) limit 0 w h
 
   pub passes-length : (limit : ℕ) (w : List ℕ) → length (passes es m limit w .state) ≡ length w
   passes-length limit w =
       run-kept (pass es m) (λ s. length s ≡ length w) (λ s t q l. subst (λ (x : List ℕ). length x ≡ length w) (stopped s t q .0) l)
-      (λ s t q l. subst (λ (x : List ℕ). length x ≡ length w) (sym (gone s t q)) (flipped-length es s ∙ l)) limit 0 w refl
+      (λ s t q l. subst (λ (x : List ℕ). length x ≡ length w) (sym (gone es m s t q)) (flipped-length es s ∙ l)) limit 0 w refl
 
 -- ---- a call that passes its tests
 abbrev pub answerOf : ℕ → List ℕ → List ℕ → List ℕ → ℕ
@@ -123,7 +115,7 @@ module _ (code limit : ℕ) (input : List ℕ) where
 
   first-bits : Bits first
   unfolding first
-  first-bits = filled-bits (punctured code) (edges code) (rowOf code .«punctured_bits») limit (received code input) (received-bits input (bitsIn code) refl) refl
+  first-bits = filled-bits (punctured code) (edges code) (rowOf code .«punctured_bits») limit (received code input) _ _ refl (received-bits input (bitsIn code) refl)
 
   first-length : length first ≡ bitsIn code
   unfolding first erasurePasses

@@ -22,17 +22,18 @@ use Rattle.codes.specs.Equations.{checkOf, bitOf, bitsOf, checksOf, par, wordOf
 use Rattle.runs.specs.Meets.{syndromeOf}
 use Rattle.runs.proofs.Tally.{into, put-length, put-at}
 use Rattle.runs.proofs.Parity.{laid-ranged}
-use Rattle.bit_flip.specs.Erasures.{holes, others, ayes, nays, voted, filled, erasurePasses, fromOn}
-use Rattle.bit_flip.specs.Steps.{hole, dig, give, voteByte, settleByte, setFrom, Light, Bits, Marked}
+use Rattle.bit_flip.specs.Erasures.{erasedEdges, others, ayes, nays, voted, filled, erasurePasses, fromOn}
+use Rattle.bit_flip.specs.Steps.{addErased, countErased, give, voteByte, castVotes, settleByte, setFrom, FewEdges, Bits, Marked}
 use Rattle.bit_flip.proofs.Scores.{gave, sum-ranged}
+use Rattle.bit_flip.proofs.Passing.{few-moved}
 
 -- ---- the byte of a check: the parity of its known bits, and twice its erased bits, at most 4
-into-hole : (g : ℕ → ℕ) → ((v : ℕ) → g v < 4) → (vs : List ℕ) (x : ℕ) → x ≤ 4 → into hole g vs x ≡ min 4 (x + 2 * sumL vs (λ v. g v / 2))
+into-erased : (g : ℕ → ℕ) → ((v : ℕ) → g v < 4) → (vs : List ℕ) (x : ℕ) → x ≤ 4 → into addErased g vs x ≡ min 4 (x + 2 * sumL vs (λ v. g v / 2))
 unfolding into
-into-hole g low [] x k = omega arith
-into-hole g low (v ∷ vs) x k =
+into-erased g low [] x k = omega arith
+into-erased g low (v ∷ vs) x k =
     let h = low v in
-    into-hole g low vs (min 4 ((x + g v / 2 * 2) % 256)) (omega arith) ∙ omega arith
+    into-erased g low vs (min 4 ((x + g v / 2 * 2) % 256)) (omega arith) ∙ omega arith
 
 -- what such a check gives
 vote-one : (h o : ℕ) → o < 2 → voteByte (min 4 (o + 2 * h)) ≡ 2 * pick (eqb h 1) o 0 + 254 * pick (eqb h 1) (1 - o) 0
@@ -93,7 +94,7 @@ sum-two : (a n : ℕ → ℕ) → ((v : ℕ) → a v + n v ≤ 1) → (vs : List
 sum-two a n h [] = omega arith
 sum-two a n h (v ∷ vs) = omega (arith, h v, sum-two a n h vs)
 
-module _ (erased : ℕ → Bool) (es : List Edge) (m n : ℕ) (w b : List ℕ) (ranged : T (all (inRange m n) es)) (light : Light es) (mark : Marked erased w b) where
+module _ (erased : ℕ → Bool) (es : List Edge) (m n : ℕ) (w b : List ℕ) (ranged : T (all (inRange m n) es)) (few : FewEdges es) (mark : Marked erased w b) where
   marked-low : (v : ℕ) → wordOf b v < 3
   marked-low v = rw (mark .byte v) (pick-both (λ (x : ℕ). x < 3) (erased v) 2 (wordOf w v) (omega arith) (omega (arith, mark .bits v)))
 
@@ -112,23 +113,23 @@ module _ (erased : ℕ → Bool) (es : List Edge) (m n : ℕ) (w b : List ℕ) (
       go false = omega (arith, mark .bits v)
 
   abbrev tally : ℕ → ℕ
-  tally a = min 4 (others erased es w a + 2 * holes erased es a)
+  tally a = min 4 (others erased es w a + 2 * erasedEdges erased es a)
 
   others-low : (a : ℕ) → others erased es w a < 2
   unfolding others
   others-low a = omega arith
 
   -- parity first, then the erased bits
-  dug : {s₁ s₂ : List ℕ} → s₁ ≡ syndromeOf es m (wordOf b) → s₂ ≡ fold (dig (wordOf b)) es s₁ → s₂ ≡ span tally 0 m
-  unfolding syndromeOf others holes
-  dug {s₁} {s₂} e₁ e₂ =
-      e₂ ∙ rw e₁ (span-is 0 _ tally m (put-length checkOf bitOf hole (wordOf b) es s ∙ long)
+  counted : {s₁ s₂ : List ℕ} → s₁ ≡ syndromeOf es m (wordOf b) → s₂ ≡ fold (countErased (wordOf b)) es s₁ → s₂ ≡ span tally 0 m
+  unfolding syndromeOf others erasedEdges
+  counted {s₁} {s₂} e₁ e₂ =
+      e₂ ∙ rw e₁ (span-is 0 _ tally m (put-length checkOf bitOf addErased (wordOf b) es s ∙ long)
       (λ a k.
       let l : a < length s = rw long k in
       let o : wordOf s a ≡ others erased es w a = span-get (λ a. par es (wordOf b) a % 2) 0 m a k ∙ sum-parity (wordOf b) _ parity-same (bitsOf es a) in
-      let h : sumL (bitsOf es a) (λ v. wordOf b v / 2) ≡ holes erased es a = sum-same _ _ flag-same (bitsOf es a) in
-      put-at checkOf bitOf hole (wordOf b) es s a l
-      ∙ into-hole (wordOf b) (λ v. omega (arith, marked-low v)) (bitsOf es a) (wordOf s a) (omega (arith, o))
+      let h : sumL (bitsOf es a) (λ v. wordOf b v / 2) ≡ erasedEdges erased es a = sum-same _ _ flag-same (bitsOf es a) in
+      put-at checkOf bitOf addErased (wordOf b) es s a l
+      ∙ into-erased (wordOf b) (λ v. omega (arith, marked-low v)) (bitsOf es a) (wordOf s a) (omega (arith, o))
       ∙ rw (o, h)))
     where
       s : List ℕ
@@ -138,13 +139,13 @@ module _ (erased : ℕ → Bool) (es : List Edge) (m n : ℕ) (w b : List ℕ) (
       long = span-length _ 0 m
 
   abbrev aye : ℕ → ℕ
-  aye a = pick (eqb (holes erased es a) 1) (others erased es w a) 0
+  aye a = pick (eqb (erasedEdges erased es a) 1) (others erased es w a) 0
 
   abbrev nay : ℕ → ℕ
-  nay a = pick (eqb (holes erased es a) 1) (1 - others erased es w a) 0
+  nay a = pick (eqb (erasedEdges erased es a) 1) (1 - others erased es w a) 0
 
   one-vote : (a : ℕ) → aye a + nay a ≤ 1
-  one-vote a = go (eqb (holes erased es a) 1)
+  one-vote a = go (eqb (erasedEdges erased es a) 1)
     where
       go : (x : Bool) → pick x (others erased es w a) 0 + pick x (1 - others erased es w a) 0 ≤ 1
       go true = omega (arith, others-low a)
@@ -152,7 +153,7 @@ module _ (erased : ℕ → Bool) (es : List Edge) (m n : ℕ) (w b : List ℕ) (
 
   cast : {s₃ : List ℕ} → s₃ ≡ map voteByte (span tally 0 m) → (a : ℕ) → a < m → wordOf s₃ a ≡ 2 * aye a + 254 * nay a
   cast e a k =
-      rw (e, map-span tally voteByte 0 m) (span-get (λ a. voteByte (tally a)) 0 m a k ∙ vote-one (holes erased es a) (others erased es w a) (others-low a))
+      rw (e, map-span tally voteByte 0 m) (span-get (λ a. voteByte (tally a)) 0 m a k ∙ vote-one (erasedEdges erased es a) (others erased es w a) (others-low a))
 
   -- the votes that a bit has
   votes : {s₃ : List ℕ} → s₃ ≡ map voteByte (span tally 0 m) → (v : ℕ) → sumL (checksOf es v) (wordOf s₃) ≡ 2 * ayes erased es w v + 254 * nays erased es w v
@@ -161,7 +162,7 @@ module _ (erased : ℕ → Bool) (es : List Edge) (m n : ℕ) (w b : List ℕ) (
 
   few-votes : (v : ℕ) → ayes erased es w v + nays erased es w v ≤ 31
   unfolding ayes nays
-  few-votes v = omega (arith, sum-two aye nay one-vote (checksOf es v), light v)
+  few-votes v = omega (arith, sum-two aye nay one-vote (checksOf es v), few .at v)
 
   settled : (s : List ℕ) → s ≡ map voteByte (span tally 0 m) → map settleByte (fold (give (wordOf s)) es b) ≡ voted erased es w
   unfolding voted
@@ -170,17 +171,19 @@ module _ (erased : ℕ → Bool) (es : List Edge) (m n : ℕ) (w b : List ℕ) (
       ∙ map-span _ settleByte 0 (length b)
       ∙ rw (mark .long) (span-ext _ _ 0 0 (length w) (λ v k. rw (votes e (0 + v), mark .byte (0 + v)) (settle-one (erased (0 + v)) _ _ _ (mark .bits (0 + v)) (few-votes (0 + v)))))
 
-  pub voted-by : {s₁ s₂ s₃ b₁ b₂ : List ℕ} → s₁ ≡ syndromeOf es m (wordOf b) → s₂ ≡ fold (dig (wordOf b)) es s₁ → s₃ ≡ map voteByte s₂
-      → b₁ ≡ fold (give (wordOf s₃)) es b → b₂ ≡ map settleByte b₁ → b₂ ≡ voted erased es w
-  voted-by e₁ e₂ e₃ e₄ e₅ = e₅ ∙ rw e₄ (settled _ (e₃ ∙ ap (map voteByte) (dug e₁ e₂)))
+  pub voted-by : {s b₁ b₂ : List ℕ} → b₂ ≡ map settleByte b₁ → b₁ ≡ fold (give (wordOf s)) es b → s ≡ castVotes es m b → b₂ ≡ voted erased es w
+  unfolding castVotes
+  voted-by e₅ e₄ e = e₅ ∙ rw e₄ (settled _ (e ∙ ap (map voteByte) (counted refl refl)))
 
--- ---- over the runs of a list of numbers, where the checks keep their number
-pub vote-by : (erased : ℕ → Bool) (ns w b : List ℕ) (m : ℕ) → Light (laid m (length b) ns) → Marked erased w b
-    → {k₁ k₃ : ℕ} {s₁ s₂ s₃ b₁ b₂ : List ℕ} → k₁ ≡ m → k₃ ≡ m
-    → s₁ ≡ syndromeOf (laid m (length b) ns) m (wordOf b) → s₂ ≡ fold (dig (wordOf b)) (laid k₁ (length b) ns) s₁ → s₃ ≡ map voteByte s₂
-    → b₁ ≡ fold (give (wordOf s₃)) (laid k₃ (length b) ns) b → b₂ ≡ map settleByte b₁ → b₂ ≡ voted erased (laid m (length b) ns) w
-vote-by erased ns w b m light mark l₁ l₃ e₁ e₂ e₃ e₄ e₅ =
-    voted-by erased (laid m (length b) ns) m (length b) w b (laid-ranged m (length b) ns) light mark e₁ (rw l₁ at e₂) e₃ (rw l₃ at e₄) e₅
+-- ---- over the edges of those runs that lie within m checks and n bits
+pub cast-by : (ns b s₁ s₂ s₃ : List ℕ) (k m n : ℕ) → s₁ ≡ syndromeOf (laid m n ns) m (wordOf b) → s₂ ≡ fold (countErased (wordOf b)) (laid k n ns) s₁ → s₃ ≡ map voteByte s₂
+    → k ≡ m → s₃ ≡ castVotes (laid m n ns) m b
+unfolding castVotes
+cast-by ns b s₁ s₂ s₃ k m n e₁ e₂ e₃ l = e₃ ∙ rw (e₂, e₁, l)
+
+pub vote-by : (erased : ℕ → Bool) (ns w b s b₁ b₂ : List ℕ) (k m n : ℕ) → b₂ ≡ map settleByte b₁ → b₁ ≡ fold (give (wordOf s)) (laid k n ns) b
+    → s ≡ castVotes (laid m n ns) m b → k ≡ m → FewEdges (laid m n ns) → Marked erased w b → b₂ ≡ voted erased (laid m n ns) w
+vote-by erased ns w b s b₁ b₂ k m n e₅ e₄ e l few mark = voted-by erased (laid m n ns) m n w b (laid-ranged m n ns) few mark e₅ (rw l at e₄) e
 
 -- ---- the bits from n on are erased
 module _ (n x : ℕ) (w : List ℕ) where
@@ -239,9 +242,15 @@ module _ (erased : ℕ → Bool) (es : List Edge) (p limit : ℕ) (w : List ℕ)
   unfolding erasurePasses
   one-pass h k e = rw (lt-ltb 0 p h, lt-ltb 0 limit k, e)
 
-pub erased-by : (ns w : List ℕ) (m n limit : ℕ) → Bits w → n < length w → 0 < limit → {b w′ : List ℕ} → b ≡ setFrom n 2 w → length b ≡ length w
-    → ((erased : ℕ → Bool) (u : List ℕ) → Marked erased u b → w′ ≡ voted erased (laid m (length b) ns) u)
+-- n bits were sent: none is erased, or those from n on
+pub all-sent : (erased : ℕ → Bool) (es : List Edge) (w : List ℕ) (t n limit : ℕ) → t ≤ n → filled w 0 ≡ erasurePasses erased es (t - n) limit w
+all-sent erased es w t n limit h = no-bits erased es (t - n) limit w (omega arith)
+
+pub erased-by : (ns w b w′ : List ℕ) (m n limit : ℕ) → ((erased : ℕ → Bool) (u : List ℕ) → Marked erased u b → w′ ≡ voted erased (laid m (length b) ns) u)
+    → b ≡ setFrom n 2 w → length b ≡ length w → Bits w → n < length w → (limit ≡ 0 → ⊥)
     → filled w′ 0 ≡ erasurePasses (fromOn n (length w)) (laid m (length w) ns) (length w - n) limit w
-erased-by ns w m n limit bits h k e l v =
-    one-pass (fromOn n (length w)) (laid m (length w) ns) (length w - n) limit w (omega arith) k
+erased-by ns w b w′ m n limit v e l bits h k =
+    one-pass (fromOn n (length w)) (laid m (length w) ns) (length w - n) limit w (omega arith) (omega arith)
     (rw l at (v (fromOn n (length w)) w (rw e (marked n w bits))))
+
+pub ruleset erasing = (cast-by, vote-by, all-sent, no-limit, erased-by, few-moved, needs)

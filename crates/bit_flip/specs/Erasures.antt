@@ -11,8 +11,8 @@ use Rattle.codes.specs.Edges.{Edge}
 use Rattle.codes.specs.Equations.{bitsOf, checksOf, wordOf}
 
 -- how many edges to erased bits a check has
-unfoldable pub holes : (ℕ → Bool) → List Edge → ℕ → ℕ
-holes erased es a = sumL (bitsOf es a) (λ v. pick (erased v) 1 0)
+unfoldable pub erasedEdges : (ℕ → Bool) → List Edge → ℕ → ℕ
+erasedEdges erased es a = sumL (bitsOf es a) (λ v. pick (erased v) 1 0)
 
 -- the parity of its other bits
 unfoldable pub others : (ℕ → Bool) → List Edge → List ℕ → ℕ → ℕ
@@ -21,10 +21,10 @@ others erased es w a = sumL (bitsOf es a) (λ v. pick (erased v) 0 (wordOf w v))
 -- "each check with exactly one punctured edge votes for that bit, plus one if its other bits have odd parity, minus one otherwise":
 -- the votes for a bit, and those against it
 unfoldable pub ayes : (ℕ → Bool) → List Edge → List ℕ → ℕ → ℕ
-ayes erased es w v = sumL (checksOf es v) (λ a. pick (eqb (holes erased es a) 1) (others erased es w a) 0)
+ayes erased es w v = sumL (checksOf es v) (λ a. pick (eqb (erasedEdges erased es a) 1) (others erased es w a) 0)
 
 unfoldable pub nays : (ℕ → Bool) → List Edge → List ℕ → ℕ → ℕ
-nays erased es w v = sumL (checksOf es v) (λ a. pick (eqb (holes erased es a) 1) (1 - others erased es w a) 0)
+nays erased es w v = sumL (checksOf es v) (λ a. pick (eqb (erasedEdges erased es a) 1) (1 - others erased es w a) 0)
 
 -- "a bit is 1 if its sum is above zero, else 0"
 unfoldable pub voted : (ℕ → Bool) → List Edge → List ℕ → List ℕ

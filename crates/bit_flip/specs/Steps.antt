@@ -1,15 +1,16 @@
 -- What the functions inside do to bytes. A check's byte is 1 where it is broken; a bit's byte is the bit and twice what its checks give. Assumes nothing.
 use mathlib.Core.Bool.{Bool}
-use mathlib.Core.List.{List}
+use mathlib.Core.List.{List, map}
 use mathlib.Core.Path.{_≡_}
 use Prim.Native.Nat.{ℕ, _+_, _-_, _*_, _/_, _%_, _≤_, _<_, min}
 use lib.Dec.{eqb, ltb, leb}
 use lib.ListN.{length}
 use Rattle.maths.specs.Tests.{pick, both}
-use Rattle.maths.specs.Lists.{span}
+use Rattle.maths.specs.Lists.{span, fold}
 use Rattle.codes.specs.Codes.{Known, rowOf, checksIn}
 use Rattle.codes.specs.Edges.{Edge}
 use Rattle.codes.specs.Equations.{checkOf, bitOf, checksOf, wordOf}
+use Rattle.runs.specs.Meets.{syndromeOf}
 use Rattle.runs.specs.Steps.{put}
 
 -- twice what each check has, to the bits of its edges
@@ -24,15 +25,19 @@ unfoldable pub flipByte : ℕ → ℕ → ℕ
 flipByte top x = pick (eqb (x / 2) top) (1 - x % 2) (x % 2)
 
 -- the erased bits of a check, whose byte is its parity and twice their number, at most 4
-abbrev pub hole : ℕ → ℕ → ℕ
-hole x y = min 4 ((x + y / 2 * 2) % 256)
+abbrev pub addErased : ℕ → ℕ → ℕ
+addErased x y = min 4 ((x + y / 2 * 2) % 256)
 
-abbrev pub dig : (ℕ → ℕ) → Edge → List ℕ → List ℕ
-dig w = put checkOf bitOf hole w
+abbrev pub countErased : (ℕ → ℕ) → Edge → List ℕ → List ℕ
+countErased w = put checkOf bitOf addErased w
 
 -- what a check gives: 2 for odd parity, -2 for even, where it has one erased bit
 unfoldable pub voteByte : ℕ → ℕ
 voteByte x = pick (eqb x 3) 2 (pick (eqb x 2) 254 0)
+
+-- the bytes of m checks after a parity, a count of erased bits and a vote
+unfoldable pub castVotes : List Edge → ℕ → List ℕ → List ℕ
+castVotes es m b = map voteByte (fold (countErased (wordOf b)) es (syndromeOf es m (wordOf b)))
 
 -- a bit as it was, or an erased bit (2) by four times the votes it has
 unfoldable pub settleByte : ℕ → ℕ
@@ -43,8 +48,8 @@ unfoldable pub setFrom : ℕ → ℕ → List ℕ → List ℕ
 setFrom n x w = span (λ v. pick (leb n v) x (wordOf w v)) 0 (length w)
 
 -- no bit has so many edges that a byte could not hold its votes
-abbrev pub Light : List Edge → Type 0
-Light es = (v : ℕ) → length (checksOf es v) ≤ 31
+pub record FewEdges (es : List Edge) : Type 0 where
+  pub at : (v : ℕ) → length (checksOf es v) ≤ 31
 
 -- every element is 0 or 1
 abbrev pub Bits : List ℕ → Type 0

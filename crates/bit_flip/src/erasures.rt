@@ -9,7 +9,7 @@ ghost use Rattle.runs.specs.Runs.{run, laid};
 ghost use Rattle.codes.specs.Equations.{wordOf};
 ghost use Rattle.runs.specs.Steps.{overRun};
 ghost use Rattle.bit_flip.specs.Erasures.{voted, filled, erasurePasses, fromOn};
-ghost use Rattle.bit_flip.specs.Steps.{hole, dig, voteByte, settleByte, setFrom, Light, Bits, Marked};
+ghost use Rattle.bit_flip.specs.Steps.{addErased, countErased, voteByte, castVotes, settleByte, setFrom, FewEdges, Bits, Marked};
 use crate::passes::give_runs;
 use codes::parity_iter::Bit;
 use codes::parity_iter::Check;
@@ -18,16 +18,16 @@ use runs::meets::syndrome;
 use runs::run_at;
 
 // Parity and erased bits of a check, with one bit more. At 4 there is no vote whatever follows.
-fn add_hole(x: u8, y: u8) -> u8
-    ensures { λ r. ⌜ r ≡ hole x y ⌝ }
+fn add_erased(x: u8, y: u8) -> u8
+    ensures { λ r. ⌜ r ≡ addErased x y ⌝ }
 {
     let s = std::num::wrapping_add_u8(x, y / 2 * 2);
     if s < 4 { s } else { 4 }
 }
 
 // The erased bits of a run's edges, counted at its checks; a run that does not lie within is passed over.
-fn dig_run(bits: &[u8], checks: &mut [u8], check: Check, bit: Bit, size: usize)
-    ensures { λ _. ⌜ now (checks .exit) ≡ overRun (length (now (checks .entry))) (length (now (bits .entry))) (dig (wordOf (now (bits .entry)))) (run (check .0) (bit .0) size) (now (checks .entry)) ⌝ }
+fn count_erased_run(bits: &[u8], checks: &mut [u8], check: Check, bit: Bit, size: usize)
+    ensures { λ _. ⌜ now (checks .exit) ≡ overRun (length (now (checks .entry))) (length (now (bits .entry))) (countErased (wordOf (now (bits .entry)))) (run (check .0) (bit .0) size) (now (checks .entry)) ⌝ }
 {
     if !lies_within(check, bit, size, checks.len(), bits.len()) {
         return;
@@ -35,17 +35,17 @@ fn dig_run(bits: &[u8], checks: &mut [u8], check: Check, bit: Bit, size: usize)
     let x = check.0;
     let y = bit.0;
     for i in 0..size {
-        checks[x + i] = add_hole(checks[x + i], bits[y + i]);
+        checks[x + i] = add_erased(checks[x + i], bits[y + i]);
     }
 }
 
-fn dig_runs(triples: &[u16], bits: &[u8], checks: &mut [u8])
-    ensures { λ _. ⌜ now (checks .exit) ≡ fold (dig (wordOf (now (bits .entry)))) (laid (length (now (checks .entry))) (length (now (bits .entry))) (now (triples .entry))) (now (checks .entry)) ⌝ }
+fn count_erased_runs(triples: &[u16], bits: &[u8], checks: &mut [u8])
+    ensures { λ _. ⌜ now (checks .exit) ≡ fold (countErased (wordOf (now (bits .entry)))) (laid (length (now (checks .entry))) (length (now (bits .entry))) (now (triples .entry))) (now (checks .entry)) ⌝ }
 {
     let n = triples.len() / 3;
     for i in 0..n {
         let r = run_at(triples, i);
-        dig_run(bits, checks, r.check, r.bit, r.size);
+        count_erased_run(bits, checks, r.check, r.bit, r.size);
     }
 }
 
@@ -87,14 +87,21 @@ fn settle_bytes(bits: &mut [u8])
     }
 }
 
-// Each erased bit by the votes of the checks that have no other erased bit.
-fn vote(triples: &[u16], bits: &mut [u8], checks: &mut [u8])
-    requires { ⌜ Light (laid (length (now checks)) (length (now bits)) (now triples)) ⌝ }
-    ensures { λ _. ⌜ ((erased : ℕ → Bool) (w : List ℕ) → Marked erased w (now (bits .entry)) → now (bits .exit) ≡ voted erased (laid (length (now (checks .entry))) (length (now (bits .entry))) (now (triples .entry))) w) ⌝ }
+// What each check gives to its bits: a vote where exactly one of them is erased.
+fn cast_votes(triples: &[u16], bits: &[u8], checks: &mut [u8])
+    ensures { λ _. ⌜ now (checks .exit) ≡ castVotes (laid (length (now (checks .entry))) (length (now (bits .entry))) (now (triples .entry))) (length (now (checks .entry))) (now (bits .entry)) ⌝ }
 {
     syndrome(triples, bits, checks);
-    dig_runs(triples, bits, checks);
+    count_erased_runs(triples, bits, checks);
     vote_bytes(checks);
+}
+
+// Each erased bit by the votes of the checks that have no other erased bit.
+fn vote(triples: &[u16], bits: &mut [u8], checks: &mut [u8])
+    requires { ⌜ FewEdges (laid (length (now checks)) (length (now bits)) (now triples)) ⌝ }
+    ensures { λ _. ⌜ ((erased : ℕ → Bool) (w : List ℕ) → Marked erased w (now (bits .entry)) → now (bits .exit) ≡ voted erased (laid (length (now (checks .entry))) (length (now (bits .entry))) (now (triples .entry))) w) ⌝ }
+{
+    cast_votes(triples, bits, checks);
     give_runs(triples, checks, bits);
     settle_bytes(bits);
 }
@@ -117,7 +124,7 @@ pub(crate) fn decode_erasures(
     checks: &mut [u8],
     maxiters: usize,
 ) -> usize
-    requires { ⌜ (Bits (now bits)) × (Light (laid (length (now checks)) (length (now bits)) (now triples))) ⌝ }
+    requires { ⌜ (Bits (now bits)) × (FewEdges (laid (length (now checks)) (length (now bits)) (now triples))) ⌝ }
     ensures { λ r. ⌜ filled (now (bits .exit)) r ≡ erasurePasses (fromOn n (length (now (bits .entry)))) (laid (length (now (checks .entry))) (length (now (bits .entry))) (now (triples .entry))) (length (now (bits .entry)) - n) maxiters (now (bits .entry)) ⌝ }
 {
     if n >= bits.len() {

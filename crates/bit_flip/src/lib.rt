@@ -5,9 +5,9 @@ ghost use lib.ListN.{length};
 ghost use Rattle.maths.specs.Lists.{span};
 ghost use Rattle.maths.specs.Bits.{bitAt};
 ghost use Rattle.runs.specs.Runs.{laid};
-ghost use Rattle.bit_flip.specs.Erasures.{fromOn};
+ghost use Rattle.bit_flip.specs.Erasures.{filled, erasurePasses, fromOn};
 ghost use Rattle.bit_flip.specs.Outcome.{left, decodedTo, decodeWord, decoded, outcome};
-ghost use Rattle.bit_flip.specs.Steps.{Light, Accepted};
+ghost use Rattle.bit_flip.specs.Steps.{FewEdges, Accepted};
 use codes::ACCEPTED;
 use codes::MAX_CHECKS;
 use codes::WRONG_READ;
@@ -25,7 +25,32 @@ use runs::runs_of;
 mod erasures;
 mod passes;
 
-// The word that was received, of which the first n bits were sent, one byte a bit, and the passes over it.
+// The word that was received, of which the first n bits were sent, one byte a bit.
+fn receive(input: &[u8], n: usize, bits: &mut [u8])
+    requires { ⌜ (8 * length (now input) ≡ n) × (n ≤ length (now bits)) ⌝ }
+    ensures { λ _. ⌜ now (bits .exit) ≡ span (bitAt (now (input .entry))) 0 (length (now (bits .entry))) ⌝ }
+{
+    bits::unpack(input, bits);
+    set_from(bits, n, 0);
+}
+
+// The word from which the main passes start, after the erasure passes, and how many iterations those count.
+fn first_word(
+    input: &[u8],
+    n: usize,
+    triples: &[u16],
+    bits: &mut [u8],
+    checks: &mut [u8],
+    maxiters: usize,
+) -> usize
+    requires { ⌜ (8 * length (now input) ≡ n) × (n ≤ length (now bits)) × (FewEdges (laid (length (now checks)) (length (now bits)) (now triples))) ⌝ }
+    ensures { λ r. ⌜ filled (now (bits .exit)) r ≡ erasurePasses (fromOn n (length (now (bits .entry)))) (laid (length (now (checks .entry))) (length (now (bits .entry))) (now (triples .entry))) (length (now (bits .entry)) - n) maxiters (span (bitAt (now (input .entry))) 0 (length (now (bits .entry)))) ⌝ }
+{
+    receive(input, n, bits);
+    decode_erasures(triples, n, bits, checks, maxiters)
+}
+
+// All passes over the word that was received.
 fn decode_bits(
     input: &[u8],
     n: usize,
@@ -34,12 +59,10 @@ fn decode_bits(
     checks: &mut [u8],
     maxiters: usize,
 ) -> Report
-    requires { ⌜ (8 * length (now input) ≡ n) × (n ≤ length (now bits)) × (Light (laid (length (now checks)) (length (now bits)) (now triples))) ⌝ }
+    requires { ⌜ (8 * length (now input) ≡ n) × (n ≤ length (now bits)) × (FewEdges (laid (length (now checks)) (length (now bits)) (now triples))) ⌝ }
     ensures { λ r. ⌜ decodedTo r (now (bits .exit)) ≡ decodeWord (laid (length (now (checks .entry))) (length (now (bits .entry))) (now (triples .entry))) (length (now (checks .entry))) (fromOn n (length (now (bits .entry)))) (length (now (bits .entry)) - n) maxiters (span (bitAt (now (input .entry))) 0 (length (now (bits .entry)))) ⌝ }
 {
-    bits::unpack(input, bits);
-    set_from(bits, n, 0);
-    let count = decode_erasures(triples, n, bits, checks, maxiters);
+    let count = first_word(input, n, triples, bits, checks, maxiters);
     let e = run_passes(triples, bits, checks, maxiters);
     finished(e.success, e.iters + count)
 }

@@ -3,13 +3,14 @@ ghost use mathlib.Core.Path.{_≡_};
 ghost use mathlib.Core.List.{map};
 ghost use lib.ListN.{length};
 ghost use Rattle.maths.specs.Lists.{fold};
-ghost use Rattle.maths.specs.Budget.{end};
+ghost use Rattle.maths.specs.Tests.{pick};
+ghost use Rattle.maths.specs.Budget.{stop, go, end};
 ghost use Rattle.runs.specs.Runs.{run, laid};
 ghost use Rattle.codes.specs.Equations.{wordOf};
 ghost use Rattle.runs.specs.Meets.{syndromeOf};
 ghost use Rattle.runs.specs.Steps.{overRun};
-ghost use Rattle.bit_flip.specs.Flip.{flipped, passes};
-ghost use Rattle.bit_flip.specs.Steps.{twice, give, flipByte, Light, Bits};
+ghost use Rattle.bit_flip.specs.Flip.{flipped, pass, passes};
+ghost use Rattle.bit_flip.specs.Steps.{twice, give, flipByte, FewEdges, Bits};
 use codes::parity_iter::Bit;
 use codes::parity_iter::Check;
 use report::Ended;
@@ -63,12 +64,25 @@ fn flip_bytes(bits: &mut [u8], top: u8)
 
 // Every bit with the largest score is flipped; the checks are those that are broken.
 fn flip_pass(triples: &[u16], checks: &[u8], bits: &mut [u8])
-    requires { ⌜ (Bits (now bits)) × (Light (laid (length (now checks)) (length (now bits)) (now triples))) × (now checks ≡ syndromeOf (laid (length (now checks)) (length (now bits)) (now triples)) (length (now checks)) (wordOf (now bits))) ⌝ }
+    requires { ⌜ (Bits (now bits)) × (FewEdges (laid (length (now checks)) (length (now bits)) (now triples))) × (now checks ≡ syndromeOf (laid (length (now checks)) (length (now bits)) (now triples)) (length (now checks)) (wordOf (now bits))) ⌝ }
     ensures { λ _. ⌜ now (bits .exit) ≡ flipped (laid (length (now (checks .entry))) (length (now (bits .entry))) (now (triples .entry))) (now (bits .entry)) ⌝ }
 {
     give_runs(triples, checks, bits);
     let top = bits::largest(bits) / 2;
     flip_bytes(bits, top);
+}
+
+// One pass: whether no check is broken. Where one is, bits are flipped.
+fn one_pass(triples: &[u16], bits: &mut [u8], checks: &mut [u8]) -> bool
+    requires { ⌜ (Bits (now bits)) × (FewEdges (laid (length (now checks)) (length (now bits)) (now triples))) ⌝ }
+    ensures { λ r. ⌜ pick r (stop (now (bits .exit))) (go (now (bits .exit))) ≡ pass (laid (length (now (checks .entry))) (length (now (bits .entry))) (now (triples .entry))) (length (now (checks .entry))) (now (bits .entry)) ⌝ }
+{
+    syndrome(triples, bits, checks);
+    if bits::largest(checks) == 0 {
+        return true;
+    }
+    flip_pass(triples, checks, bits);
+    false
 }
 
 pub(crate) fn run_passes(
@@ -77,19 +91,17 @@ pub(crate) fn run_passes(
     checks: &mut [u8],
     maxiters: usize,
 ) -> Ended
-    requires { ⌜ (Bits (now bits)) × (Light (laid (length (now checks)) (length (now bits)) (now triples))) ⌝ }
+    requires { ⌜ (Bits (now bits)) × (FewEdges (laid (length (now checks)) (length (now bits)) (now triples))) ⌝ }
     ensures { λ r. ⌜ end (r .success) (r .iters) (now (bits .exit)) ≡ passes (laid (length (now (checks .entry))) (length (now (bits .entry))) (now (triples .entry))) (length (now (checks .entry))) maxiters (now (bits .entry)) ⌝ }
 {
     let mut pass = 0;
     while pass < maxiters {
-        syndrome(triples, bits, checks);
-        if bits::largest(checks) == 0 {
+        if one_pass(triples, bits, checks) {
             return Ended {
                 success: true,
                 iters: pass,
             };
         }
-        flip_pass(triples, checks, bits);
         pass += 1;
     }
     Ended {

@@ -6,4 +6,4 @@ pub mod Sweep
 pub mod Tally
 pub mod Loops
 pub mod Parity
-pub mod Light
+pub mod Degrees

@@ -18,7 +18,7 @@ use Rattle.codes.specs.Equations.{checksOf, par}
 use Rattle.matrices.specs.Circulants.{Circ, circ, edgesOf}
 use Rattle.matrices.proofs.Rows.{inRow, inColumn, sumRow, par-row}
 use Rattle.matrices.proofs.Weights.{rowTo, row-to, checks-column}
-use Rattle.bit_flip.specs.Erasures.{holes, fromOn}
+use Rattle.bit_flip.specs.Erasures.{erasedEdges, fromOn}
 
 -- ---- a list of one circulant, not turned, in the row a and the column q
 abbrev single : ℕ → ℕ → List Circ → Bool
@@ -89,9 +89,9 @@ module _ (b nb tb : ℕ) (pos : 0 < b) where
     par-only : (w : ℕ → ℕ) (a t : ℕ) → t < b → par (edgesOf b ks) (only w) (a * b + t) ≡ sumRow b (punct nb tb (inRow ks a)) (λ q x. w (q * b + x)) t
     par-only w a t h = par-row b ks (only w) a t h ∙ row-only (inRow ks a) w t
 
-    holes-row : (a t : ℕ) → t < b → holes (fromOn (nb * b) (tb * b)) (edgesOf b ks) (a * b + t) ≡ length (punct nb tb (inRow ks a))
-    unfolding holes
-    holes-row a t h = par-only (λ v. 1) a t h ∙ ones (punct nb tb (inRow ks a))
+    erasedEdges-row : (a t : ℕ) → t < b → erasedEdges (fromOn (nb * b) (tb * b)) (edgesOf b ks) (a * b + t) ≡ length (punct nb tb (inRow ks a))
+    unfolding erasedEdges
+    erasedEdges-row a t h = par-only (λ v. 1) a t h ∙ ones (punct nb tb (inRow ks a))
       where
         ones : (js : List Circ) → sumRow b js (λ q x. 1) t ≡ length js
         ones [] = refl
@@ -106,16 +106,16 @@ module _ (b nb tb : ℕ) (pos : 0 < b) where
     alone-is = single-is (r + j) (nb + j) _ (both-left (single (r + j) (nb + j) (aloneIn nb tb ks (nb + j))) _ (below-at pb _ test j hj))
 
     -- the checks of a punctured bit with no other punctured edge are one
-    pub alone-block : keep (λ a. eqb (holes (fromOn (nb * b) (tb * b)) (edgesOf b ks) a) 1) (checksOf (edgesOf b ks) ((nb + j) * b + x)) ≡ ((r + j) * b + x) ∷ []
+    pub alone-block : keep (λ a. eqb (erasedEdges (fromOn (nb * b) (tb * b)) (edgesOf b ks) a) 1) (checksOf (edgesOf b ks) ((nb + j) * b + x)) ≡ ((r + j) * b + x) ∷ []
     alone-block =
-        let f : ℕ → Bool = λ a. eqb (holes (fromOn (nb * b) (tb * b)) (edgesOf b ks) a) 1 in
+        let f : ℕ → Bool = λ a. eqb (erasedEdges (fromOn (nb * b) (tb * b)) (edgesOf b ks) a) 1 in
         let check : Circ → ℕ = λ k. k .row * b + rowTo b pos x k in
         let y = rowTo b pos x at in
         let e : y ≡ x = sym (mod-eq-of-lt (mod-lt (x + (b - 0 % b)) pos)) ∙ ap (λ (z : ℕ). z % b) (sym (zero-add y)) ∙ row-to b pos x at hx in
         ap (keep f) (checks-column b pos ks (nb + j) x hx)
         ∙ keep-map f check (inColumn ks (nb + j))
         ∙ ap (λ (g : Circ → Bool). map check (keep g (inColumn ks (nb + j))))
-        (fun-ext (λ k. ap (λ (z : ℕ). eqb z 1) (holes-row ks (k .row) (rowTo b pos x k) (mod-lt (x + (b - k .turn % b)) pos))))
+        (fun-ext (λ k. ap (λ (z : ℕ). eqb z 1) (erasedEdges-row ks (k .row) (rowTo b pos x k) (mod-lt (x + (b - k .turn % b)) pos))))
         ∙ ap (map check) alone-is
         ∙ ap {B = List ℕ} (λ (z : ℕ). ((r + j) * b + z) ∷ []) e
 

@@ -17,7 +17,7 @@ use Rattle.maths.proofs.Sums.{sumL-keep}
 use Rattle.codes.specs.Codes.{TM, rowOf, bitsIn}
 use Rattle.codes.specs.Edges.{edges}
 use Rattle.codes.specs.Equations.{bitsOf, checksOf, wordOf}
-use Rattle.bit_flip.specs.Erasures.{holes, others, ayes, nays, voted}
+use Rattle.bit_flip.specs.Erasures.{erasedEdges, others, ayes, nays, voted}
 use Rattle.bit_flip.specs.Outcome.{punctured}
 use Rattle.telemetry.specs.Completion.{lone, sentParity, completion}
 use Rattle.telemetry.proofs.Alone.{alone-one}
@@ -47,10 +47,10 @@ module _ (code : ℕ) (tm : TM code) (w : List ℕ) where
 
   module _ (v : ℕ) (p : punctured code v ≡ true) where
     -- the votes of its checks are that of one
-    one-term : (g : ℕ → ℕ) → sumL (checksOf (edges code) v) (λ a. pick (eqb (holes (punctured code) (edges code) a) 1) (g a) 0) ≡ g (lone code v)
+    one-term : (g : ℕ → ℕ) → sumL (checksOf (edges code) v) (λ a. pick (eqb (erasedEdges (punctured code) (edges code) a) 1) (g a) 0) ≡ g (lone code v)
     one-term g =
         let (h, h′) = where-punctured code v p in
-        sumL-keep (λ a. eqb (holes (punctured code) (edges code) a) 1) g (checksOf (edges code) v)
+        sumL-keep (λ a. eqb (erasedEdges (punctured code) (edges code) a) 1) g (checksOf (edges code) v)
         ∙ ap (λ (vs : List ℕ). sumL vs g) (alone-one code tm v h h′)
         ∙ omega arith
 

@@ -12,12 +12,12 @@ use Rattle.maths.specs.Bytes.{Bytes, pack}
 use Rattle.codes.specs.Codes.{rowOf}
 use Rattle.codes.specs.Edges.{edges}
 use Rattle.codes.specs.Equations.{bitsOf, checksOf, Meets}
-use Rattle.bit_flip.specs.Erasures.{holes}
+use Rattle.bit_flip.specs.Erasures.{erasedEdges}
 use Rattle.bit_flip.specs.Outcome.{punctured}
 
 -- "a check with no other punctured edge": those of a bit, each as often as it has edges to the bit
 abbrev pub aloneOf : ℕ → ℕ → List ℕ
-aloneOf code v = keep (λ a. eqb (holes (punctured code) (edges code) a) 1) (checksOf (edges code) v)
+aloneOf code v = keep (λ a. eqb (erasedEdges (punctured code) (edges code) a) 1) (checksOf (edges code) v)
 
 -- the first check of the third row of blocks, and there the check of a punctured bit
 abbrev pub thirdRow : ℕ → ℕ

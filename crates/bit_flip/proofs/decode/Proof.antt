@@ -9,7 +9,7 @@ use Rattle.maths.proofs.Slices.{replicate-front-length}
 use Rattle.codes.specs.Codes.{maxChecks}
 use Rattle.runs.specs.declared.Runs.{Runs}
 use Rattle.runs.proofs.Parity.{runs-few, runs-room, runs-taken}
-use Rattle.bit_flip.proofs.Whole.{checks-few, whole-input, sent-low, whole-output, light-by, decoded-by}
+use Rattle.bit_flip.proofs.Calls.{checks-few, whole-input, sent-low, whole-output, few-by, decoded-by}
 use borrow.Author.Needs.{needs}
 use Rattle.bit_flip.proofs.decode.Statement.{statement}
 use Rattle.bit_flip.proofs.decode.Tie as tie
@@ -27,7 +27,7 @@ decode-spec =
     (λ c κs.
     let r = c .before .before .before .before .before in
     let s = r .before .before .before .before in
-    (whole-input (s .pre), sent-low (s .pre), light-by (s .pre) _ (runs-taken _ (r .runs-of .ensures)) (replicate-front-length {A = ℕ} maxChecks 0 (s .args .m) (checks-few (s .pre)))))
+    (whole-input (s .pre), sent-low (s .pre), few-by (s .pre) _ (runs-taken _ (r .runs-of .ensures)) (replicate-front-length {A = ℕ} maxChecks 0 (s .args .m) (checks-few (s .pre)))))
     (λ c κs. search needs)
     (λ c κs. search needs)
     (λ c. search needs)

@@ -227,21 +227,21 @@ module _ (x : Matrix) (v : ℕ) (big : 16 ≤ x .size) (four : x .size % 4 ≡ 0
       go true d h ih = omega arith
       go false d h ih = omega arith
 
-light-known : (code v : ℕ) → Known code → degree (edges code) v ≤ 24
+few-known : (code v : ℕ) → Known code → degree (edges code) v ≤ 24
 unfolding runs
-light-known code v h =
+few-known code v h =
     let z = sized code h in
     let p = places-few (matrixOf code) v (z .low) (z .four) (blocksOf code) in
     let c = column-few code (v / matrixOf code .size) h in
     subst (λ (es : List Edge). degree es v ≤ 24) (runs-flat code) (omega arith)
 
-light-unknown : (code v : ℕ) → codes ≤ code → degree (edges code) v ≤ 24
+few-unknown : (code v : ℕ) → codes ≤ code → degree (edges code) v ≤ 24
 unfolding edges blocksOf flatMap
-light-unknown code v h = rw (le-ltb code codes h) (omega arith)
+few-unknown code v h = rw (le-ltb code codes h) (omega arith)
 
-pub light : (code v : ℕ) → length (checksOf (edges code) v) ≤ 24
-light code v = go (decLt code codes)
+pub few-edges : (code v : ℕ) → length (checksOf (edges code) v) ≤ 24
+few-edges code v = go (decLt code codes)
   where
     go : Dec (code < codes) → degree (edges code) v ≤ 24
-    go (yes h) = light-known code v h
-    go (no h) = light-unknown code v (omega arith)
+    go (yes h) = few-known code v h
+    go (no h) = few-unknown code v (omega arith)

@@ -6,8 +6,11 @@ use Prim.Native.Nat.{ℕ, _+_, _-_, _*_, _/_, _≤_, _<_}
 use native.Mathlib.Decide.{decLt}
 use native.Mathlib.Omega.{arith}
 use borrow.Author.Tests.{eq-eqb, ne-eqb, lt-ltb, le-leb, lt-leb}
+use borrow.Author.Needs.{needs}
 use lib.Dec.{eqb, ltb, leb}
 use lib.ListN.{length, replicate}
+use mir.Syntax.{w64}
+use mir.Val.{Fits}
 use Rattle.maths.specs.Tests.{pick, both}
 use Rattle.maths.specs.Bits.{bitAt}
 use Rattle.maths.specs.Bytes.{pack}
@@ -25,20 +28,21 @@ use Rattle.runs.specs.Runs.{runs, numbers, laid}
 use Rattle.codes.specs.Equations.{wordOf}
 use Rattle.codes.proofs.Codes.{roomy, asked-unknown, asked-known}
 use Rattle.runs.proofs.Parity.{laid-runs}
-use Rattle.runs.proofs.Light.{light}
+use Rattle.runs.proofs.Degrees.{few-edges}
 use Rattle.report.specs.declared.Report.{Report}
 use Rattle.report.specs.Report.{refusal, ending}
 use Rattle.bit_flip.specs.Flip.{passes}
 use Rattle.bit_flip.specs.Erasures.{ayes, nays, voted, Filled, filled, erasurePasses, fromOn}
 use Rattle.bit_flip.specs.Outcome.{Outcome, left, decodedTo, decodeWord, decoded, outcome}
-use Rattle.bit_flip.specs.Steps.{setFrom, Light, Bits, Accepted}
+use Rattle.bit_flip.specs.Steps.{setFrom, FewEdges, Bits, Accepted}
 use Rattle.bit_flip.proofs.Scores.{span-bits}
+use Rattle.bit_flip.proofs.Passing.{few-moved}
 
 -- ---- the word that was received
-pub received-by : (s d : List ℕ) (n : ℕ) → 8 * length s ≡ n → n ≤ length d → {b b′ : List ℕ} → b ≡ unpacked s d → length b ≡ length d → b′ ≡ setFrom n 0 b
+pub received-by : (s d b b′ : List ℕ) (n : ℕ) → b′ ≡ setFrom n 0 b → b ≡ unpacked s d → length b ≡ length d → 8 * length s ≡ n → n ≤ length d
     → b′ ≡ span (bitAt s) 0 (length d)
 unfolding setFrom
-received-by s d n e h {b} eb el eb′ =
+received-by s d b b′ n eb′ eb el e h =
     eb′ ∙ rw el (span-ext _ _ 0 0 (length d) (λ v k. go (0 + v) (decLt (0 + v) n)))
   where
     go : (v : ℕ) → Dec (v < n) → pick (leb n v) 0 (wordOf b v) ≡ bitAt s v
@@ -53,32 +57,37 @@ pub voted-length : (erased : ℕ → Bool) (es : List Edge) (w : List ℕ) → l
 unfolding voted
 voted-length erased es w = span-length _ 0 (length w)
 
-pub filled-bits : (erased : ℕ → Bool) (es : List Edge) (p limit : ℕ) (w : List ℕ) → Bits w → {w′ : List ℕ} {n : ℕ} → filled w′ n ≡ erasurePasses erased es p limit w → Bits w′
+pub filled-bits : (erased : ℕ → Bool) (es : List Edge) (p limit : ℕ) (w w′ : List ℕ) (n : ℕ) → filled w′ n ≡ erasurePasses erased es p limit w → Bits w → Bits w′
 unfolding erasurePasses voted
-filled-bits erased es p limit w bits e =
+filled-bits erased es p limit w w′ n e bits =
     subst Bits (sym (ap (λ (f : Filled). f .word) e))
     (pick-both Bits (both (ltb 0 p) (ltb 0 limit)) (voted erased es w) w
     (span-bits _ (λ v. pick-both (λ (x : ℕ). x < 2) (erased v) _ (wordOf w v)
     (pick-both (λ (x : ℕ). x < 2) (ltb (nays erased es w v) (ayes erased es w v)) 1 0 (omega arith) (omega arith)) (bits v)) (length w))
     bits)
 
-pub filled-none : (erased : ℕ → Bool) (es : List Edge) (p limit : ℕ) (w : List ℕ) {w′ : List ℕ} {n : ℕ} → filled w′ n ≡ erasurePasses erased es p limit w → n ≡ 0
+pub filled-none : (erased : ℕ → Bool) (es : List Edge) (p limit : ℕ) (w w′ : List ℕ) (n : ℕ) → filled w′ n ≡ erasurePasses erased es p limit w → n ≡ 0
 unfolding erasurePasses
-filled-none erased es p limit w e = ap (λ (f : Filled). f .count) e
+filled-none erased es p limit w w′ n e = ap (λ (f : Filled). f .count) e
 
--- ---- a word, from its bits
-pub word-by : (es : List Edge) (m : ℕ) (erased : ℕ → Bool) (p limit : ℕ) (w : List ℕ) {w₁ w₂ : List ℕ} {count k : ℕ} {b : Bool} {r : Report}
-    → filled w₁ count ≡ erasurePasses erased es p limit w → end b k w₂ ≡ passes es m limit w₁ → r ≡ ending b (k + count)
-    → decodedTo r w₂ ≡ decodeWord es m erased p limit w
+-- ---- over the edges of those runs that lie within m checks and t bits
+pub first-by : (ns s w₀ w₁ : List ℕ) (m n t t′ limit count : ℕ) → w₀ ≡ span (bitAt s) 0 t → filled w₁ count ≡ erasurePasses (fromOn n t′) (laid m t′ ns) (t′ - n) limit w₀ → t′ ≡ t
+    → filled w₁ count ≡ erasurePasses (fromOn n t) (laid m t ns) (t - n) limit (span (bitAt s) 0 t)
+first-by ns s w₀ w₁ m n t t′ limit count e₀ e₁ l = rw (l, e₀) at e₁
+
+pub first-bits : (s w : List ℕ) (erased : ℕ → Bool) (es : List Edge) (t p limit count : ℕ) → filled w count ≡ erasurePasses erased es p limit (span (bitAt s) 0 t) → Bits w
+first-bits s w erased es t p limit count e = filled-bits erased es p limit (span (bitAt s) 0 t) w count e (span-bits (bitAt s) (bitAt-low s) t)
+
+-- no iteration is counted before the main passes
+pub count-fits : (erased : ℕ → Bool) (es : List Edge) (p limit : ℕ) (w w′ : List ℕ) (k n : ℕ) → filled w′ n ≡ erasurePasses erased es p limit w → Fits w64 k → Fits w64 (k + n)
+count-fits erased es p limit w w′ k n e f = record { fits = omega (arith, filled-none erased es p limit w w′ n e, f .fits) }
+
+pub word-by : (ns w w₁ w₂ : List ℕ) (erased : ℕ → Bool) (m m′ t t′ p limit count k : ℕ) (b : Bool) (r : Report) → r ≡ ending b (k + count) → end b k w₂ ≡ passes (laid m′ t′ ns) m′ limit w₁
+    → filled w₁ count ≡ erasurePasses erased (laid m t ns) p limit w → m′ ≡ m → t′ ≡ t → decodedTo r w₂ ≡ decodeWord (laid m t ns) m erased p limit w
 unfolding decodeWord
-word-by es m erased p limit w e₁ e₂ er = rw (er, ← e₁, ← e₂)
+word-by ns w w₁ w₂ erased m m′ t t′ p limit count k b r er e₂ e₁ em et = rw (er, ← e₁, ← (rw (em, et) at e₂))
 
--- the same over the runs of a list of numbers, where m checks and t bits keep their number
-pub bits-by : (ns w : List ℕ) (m t n limit : ℕ) {t′ m″ t″ : ℕ} {w₀ w₁ w₂ : List ℕ} {count k : ℕ} {b : Bool} {r : Report} → t′ ≡ t → m″ ≡ m → t″ ≡ t → w₀ ≡ w
-    → filled w₁ count ≡ erasurePasses (fromOn n t′) (laid m t′ ns) (t′ - n) limit w₀ → end b k w₂ ≡ passes (laid m″ t″ ns) m″ limit w₁ → r ≡ ending b (k + count)
-    → decodedTo r w₂ ≡ decodeWord (laid m t ns) m (fromOn n t) (t - n) limit w
-bits-by ns w m t n limit l₁ k₂ l₂ ew e₁ e₂ er =
-    word-by (laid m t ns) m (fromOn n t) (t - n) limit w (rw (l₁, ew) at e₁) (rw (k₂, l₂) at e₂) er
+pub ruleset decodes = (received-by, received-bits, few-moved, first-by, first-bits, count-fits, word-by, needs)
 
 -- ---- an accepted call
 module _ {code n m i o t : ℕ} (a : Accepted code n m i o t) where
@@ -102,8 +111,8 @@ module _ {code n m i o t : ℕ} (a : Accepted code n m i o t) where
       let c : _ ≡ checksIn code = ek ∙ a .checks in
       rw (en, c, bits-are) (laid-runs code (a .known))
 
-  pub light-by : (ns : List ℕ) {k : ℕ} → ns ≡ numbers (runs code) → k ≡ m → Light (laid k t ns)
-  light-by ns en ek v = rw (edges-are ns en ek) (omega (arith, light code v))
+  pub few-by : (ns : List ℕ) {k : ℕ} → ns ≡ numbers (runs code) → k ≡ m → FewEdges (laid k t ns)
+  few-by ns en ek = rw (edges-are ns en ek) (record { at = λ v. omega (arith, few-edges code v) })
 
   pub decoded-by : (input ns : List ℕ) (limit k : ℕ) {w w′ out : List ℕ} {r : Report} → ns ≡ numbers (runs code) → k ≡ m
       → decodedTo r w ≡ decodeWord (laid k t ns) k (fromOn n t) (t - n) limit (span (bitAt input) 0 t) → out ≡ pack (wordOf w) o → w′ ≡ replicate t 0

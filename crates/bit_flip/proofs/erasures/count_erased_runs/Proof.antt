@@ -1,0 +1,16 @@
+use Prim.Native.Nat.{_-_}
+use lib.ListN.{length}
+use Rattle.codes.specs.Equations.{wordOf}
+use Rattle.bit_flip.specs.Steps.{countErased}
+use Rattle.runs.proofs.Loops.{Sweeping, sweeps}
+use Rattle.bit_flip.proofs.erasures.count_erased_runs.Statement.{statement}
+use Rattle.bit_flip.proofs.erasures.count_erased_runs.Tie as tie
+
+pub count-erased-runs-spec : {M : Type 1} → statement M
+count-erased-runs-spec =
+    tie.close
+    (tie.spec
+    (λ triples bits checks₀ n i₀ checks i. Sweeping (countErased (wordOf bits)) (length checks₀) (length bits) triples i checks₀ checks)
+    (λ triples bits checks₀ n i₀ checks i. n - i)
+    (λ c. search sweeps) (λ c κs. search sweeps) (λ c κs. search sweeps) (λ c. search sweeps) (λ c. search sweeps) (λ c. search sweeps)
+    (λ c. search sweeps) (λ c. search sweeps))
