@@ -1,39 +1,44 @@
 -- From the bytes of a call to the outcome of the definition. Assumes nothing.
-use mathlib.Core.Bool.{Bool, true, false}
+use mathlib.Core.Bool.{Bool}
 use mathlib.Core.List.{List}
 use mathlib.Core.Path.{_≡_, sym, ap, subst, _∙_}
 use Prim.Native.Nat.{ℕ, _+_, _-_, _*_, _/_, _≤_, _<_}
 use native.Mathlib.Decide.{decLt}
 use native.Mathlib.Omega.{arith}
-use borrow.Author.Tests.{eq-eqb, ne-eqb, lt-ltb, le-leb, lt-leb}
 use borrow.Author.Needs.{needs}
-use lib.Dec.{eqb, ltb, leb}
-use lib.ListN.{length, replicate}
+use borrow.Author.Tests.{ne-eqb, le-leb, lt-leb}
+use lib.Dec.{ltb, leb}
+use lib.ListN.{length, take, replicate}
 use mir.Syntax.{w64}
 use mir.Val.{Fits}
 use Rattle.maths.specs.Tests.{pick, both}
 use Rattle.maths.specs.Bits.{bitAt}
-use Rattle.maths.specs.Bytes.{pack}
 use Rattle.maths.specs.Lists.{span}
 use Rattle.maths.specs.Budget.{end}
 use Rattle.maths.proofs.Tests.{pick-both}
 use Rattle.maths.proofs.Lists.{span-length, span-ext}
 use Rattle.maths.proofs.Slices.{overwrite-at}
 use Rattle.maths.proofs.Bytes.{bitAt-low, bitAt-past}
-use Rattle.bits.specs.Packed.{wholeBytes, unpacked}
+use Rattle.bits.specs.Packed.{wholeBytes, unpacked, packed}
+use Rattle.bits.proofs.Packed.{packed-whole}
+use Rattle.codes.specs.declared.CodeParams.{CodeParams}
 use Rattle.codes.specs.declared.ParamsAnswer.{ParamsAnswer}
-use Rattle.codes.specs.Codes.{codes, known, rowOf, paramsOf, bitsIn, checksIn, maxChecks}
+use Rattle.codes.specs.Answers.{test, firstOf, orTest, unlike}
+use Rattle.codes.specs.Codes.{rowOf, paramsOf, bitsIn, checksIn, maxChecks}
 use Rattle.codes.specs.Edges.{Edge, edges}
-use Rattle.runs.specs.Runs.{runs, numbers, laid}
 use Rattle.codes.specs.Equations.{wordOf}
-use Rattle.codes.proofs.Codes.{roomy, asked-unknown, asked-known}
-use Rattle.runs.proofs.Parity.{laid-runs}
+use Rattle.codes.specs.Sound.{Roomy}
+use Rattle.codes.proofs.Answers.{Passed, answered, all-passed, passed-known, passed-length}
+use Rattle.codes.proofs.Codes.{roomy}
+use Rattle.runs.specs.declared.Runs.{Runs}
+use Rattle.runs.specs.Runs.{runsOf, laid}
+use Rattle.runs.proofs.Parity.{laid-runs, runs-fit, runs-room, runs-lent, runs-taken, zeros, zeros-lent}
 use Rattle.runs.proofs.Degrees.{few-edges}
 use Rattle.report.specs.declared.Report.{Report}
 use Rattle.report.specs.Report.{refusal, ending}
 use Rattle.bit_flip.specs.Flip.{passes}
 use Rattle.bit_flip.specs.Erasures.{ayes, nays, voted, Filled, filled, erasurePasses, fromOn}
-use Rattle.bit_flip.specs.Outcome.{Outcome, left, decodedTo, decodeWord, decoded, outcome}
+use Rattle.bit_flip.specs.Outcome.{Outcome, left, decodedTo, decodeWord, decodedWord, decoded, tests, outcome}
 use Rattle.bit_flip.specs.Steps.{setFrom, FewEdges, Bits, Accepted}
 use Rattle.bit_flip.proofs.Scores.{span-bits}
 use Rattle.bit_flip.proofs.Passing.{few-moved}
@@ -90,83 +95,87 @@ word-by ns w w₁ w₂ erased m m′ t t′ p limit count k b r er e₂ e₁ em 
 pub ruleset decodes = (received-by, received-bits, few-moved, first-by, first-bits, count-fits, word-by, needs)
 
 -- ---- an accepted call
-module _ {code n m i o t : ℕ} (a : Accepted code n m i o t) where
-  pub bits-are : t ≡ bitsIn code
+module _ (code : ℕ) (row : CodeParams) (input working : ℕ) (a : Accepted code row input working) where
+  row-roomy : Roomy row
+  row-roomy = rw (a .is-row) (roomy code (a .known))
+
+  bits-are : working ≡ bitsIn code
   bits-are = a .working-long ∙ roomy code (a .known) .working
 
-  pub checks-few : m ≤ maxChecks
-  checks-few = omega (arith, a .checks, roomy code (a .known) .checks)
+  pub bits-fit : Fits w64 (row .n + row .«punctured_bits»)
+  bits-fit = record { fits = omega (arith, row-roomy .bits) }
 
-  pub whole-input : 8 * i ≡ n
-  whole-input = omega (arith, a .input-long, a .sent, roomy code (a .known) .sent)
+  pub data-low : row .k ≤ row .n + row .«punctured_bits»
+  data-low = omega (arith, row-roomy .k-low)
 
-  pub sent-low : n ≤ t
-  sent-low = omega (arith, bits-are, a .sent)
+  pub checks-few : row .n + row .«punctured_bits» - row .k ≤ maxChecks
+  checks-few = row-roomy .checks
 
-  pub whole-output : 8 * o ≡ t
-  whole-output = omega (arith, a .output-long, bits-are, roomy code (a .known) .whole)
+  pub whole-input : 8 * input ≡ row .n
+  whole-input = rw (a .input-long, a .is-row) (roomy code (a .known) .sent)
 
-  pub edges-are : (ns : List ℕ) {k : ℕ} → ns ≡ numbers (runs code) → k ≡ m → laid k t ns ≡ edges code
-  edges-are ns en ek =
-      let c : _ ≡ checksIn code = ek ∙ a .checks in
-      rw (en, c, bits-are) (laid-runs code (a .known))
+  pub sent-low : row .n ≤ working
+  sent-low = rw (bits-are, a .is-row) (omega arith)
 
-  pub few-by : (ns : List ℕ) {k : ℕ} → ns ≡ numbers (runs code) → k ≡ m → FewEdges (laid k t ns)
-  few-by ns en ek = rw (edges-are ns en ek) (record { at = λ v. omega (arith, few-edges code v) })
+  abbrev checks-lent : List ℕ
+  checks-lent = zeros maxChecks (row .n + row .«punctured_bits» - row .k)
 
-  pub decoded-by : (input ns : List ℕ) (limit k : ℕ) {w w′ out : List ℕ} {r : Report} → ns ≡ numbers (runs code) → k ≡ m
-      → decodedTo r w ≡ decodeWord (laid k t ns) k (fromOn n t) (t - n) limit (span (bitAt input) 0 t) → out ≡ pack (wordOf w) o → w′ ≡ replicate t 0
-      → left r out w′ ≡ decoded code input limit
-  unfolding decoded
-  decoded-by input ns limit k en ek ed eo ew =
-      let p : t - n ≡ rowOf code .«punctured_bits» = omega (arith, bits-are, a .sent) in
-      let c : k ≡ checksIn code = ek ∙ a .checks in
-      let d = rw (edges-are ns en ek, c, p, a .sent, bits-are) at ed in
-      rw (ew, eo, ← d, bits-are, a .output-long)
+  checks-are : length checks-lent ≡ checksIn code
+  checks-are = sym (zeros-lent maxChecks _ checks-few) ∙ rw (a .is-row)
 
--- ---- the tests in order
-module _ (code : ℕ) {p : ParamsAnswer} (e : p ≡ paramsOf code) (input output working : List ℕ) (limit : ℕ) where
-  pub refused-code : {r : Report} → (p .answer ≡ 0 → ⊥) → r ≡ refusal (p .answer) → left r output working ≡ outcome code input output working limit
+  module _ (q : Runs) (e : q ≡ runsOf code) where
+    edges-are : laid (length checks-lent) working (take (3 * q .count) (q .triples)) ≡ edges code
+    edges-are = rw (runs-taken code q e, checks-are, bits-are) (laid-runs code (a .known))
+
+    pub few-lent : FewEdges (laid (length (zeros maxChecks (row .n + row .«punctured_bits» - row .k))) working (take (3 * q .count) (q .triples)))
+    few-lent = rw edges-are (record { at = λ v. omega (arith, few-edges code v) })
+
+    pub word-decoded : (s w : List ℕ) (limit : ℕ) (r : Report)
+        → (let k = length (zeros maxChecks (row .n + row .«punctured_bits» - row .k)) in
+        decodedTo r w ≡ decodeWord (laid k working (take (3 * q .count) (q .triples))) k (fromOn (row .n) working) (working - row .n) limit (span (bitAt s) 0 working))
+        → decodedTo r w ≡ decodedWord code s limit
+    word-decoded s w limit r d =
+        let p : bitsIn code - rowOf code .n ≡ rowOf code .«punctured_bits» = omega arith in
+        rw p at (rw (edges-are, checks-are, bits-are, a .is-row) at d)
+
+pub decoded-by : (code limit t : ℕ) (row : CodeParams) (s o w o′ w′ : List ℕ) (r : Report) → Accepted code row (length s) t → decodedTo r w ≡ decodedWord code s limit
+    → o′ ≡ packed w o → w′ ≡ replicate (length w) 0 → length w ≡ t → length o ≡ rowOf code .«output_len» → left r o′ w′ ≡ decoded code s limit
+unfolding decoded
+decoded-by code limit t row s o w o′ w′ r a d eo ew l lo =
+    let b : length w ≡ bitsIn code = l ∙ bits-are code row (length s) t a in
+    let p = packed-whole w o (omega (arith, lo, b, roomy code (a .known) .whole)) in
+    rw (ew, eo, p, b, lo, ← d)
+
+pub ruleset decoding = (runs-fit, runs-room, runs-lent, zeros-lent, bits-fit, data-low, checks-few, whole-input, sent-low, few-lent, word-decoded, decoded-by, needs)
+
+-- ---- the answer
+pub answer-is : (code i o w : ℕ) (p : ParamsAnswer) (a b c : ℕ) → c ≡ orTest b (test (unlike w (p .row .«decode_bf_working_len»)) 4) → b ≡ orTest a (test (unlike o (p .row .«output_len»)) 3)
+    → a ≡ orTest (p .answer) (test (unlike i (p .row .n / 8)) 2) → p ≡ paramsOf code → c ≡ firstOf (tests code i o w)
+answer-is code i o w p a b c ec eb ea e = ec ∙ rw (eb, ea, e) (answered (tests code i o w) tt)
+
+module _ (code answer : ℕ) (input output working : List ℕ) (e : answer ≡ firstOf (tests code (length input) (length output) (length working))) where
+  pub call-refused : (limit : ℕ) (r : Report) → (answer ≡ 0 → ⊥) → r ≡ refusal answer → left r output working ≡ outcome code input output working limit
   unfolding outcome
-  refused-code h er =
-      let k = asked-unknown code e h in
-      rw (er, k .1, k .0)
+  call-refused limit r h er = rw (er, ← e, ne-eqb answer 0 h)
 
-  module _ (known : p .answer ≡ 0) where
-    pub refused-input : {r : Report} → (length input ≡ p .row .n / 8 → ⊥) → r ≡ refusal 2 → left r output working ≡ outcome code input output working limit
-    unfolding outcome
-    refused-input h er =
-        let i : eqb (length input) (rowOf code .n / 8) ≡ false = ne-eqb _ _ (rw e at h) in
-        rw (er, lt-ltb code codes (asked-known code e known), i)
+  passed-all : answer ≡ 0 → Passed (tests code (length input) (length output) (length working))
+  passed-all z = all-passed (tests code (length input) (length output) (length working)) tt (rw e at z)
 
-    module _ (fits : length input ≡ p .row .n / 8) where
-      input-fits : eqb (length input) (rowOf code .n / 8) ≡ true
-      input-fits = eq-eqb _ _ (rw e at fits)
+  pub call-accepted : (p : ParamsAnswer) → answer ≡ 0 → p ≡ paramsOf code → Accepted code (p .row) (length input) (length working)
+  call-accepted p z ep =
+      let q = passed-all z in
+      record {
+        known = passed-known code (q .0);
+        is-row = rw ep;
+        input-long = passed-length (length input) (rowOf code .n / 8) (q .1 .0);
+        working-long = passed-length (length working) (rowOf code .«decode_bf_working_len») (q .1 .1 .1 .0);
+      }
 
-      pub refused-output : {r : Report} → (length output ≡ p .row .«output_len» → ⊥) → r ≡ refusal 3 → left r output working ≡ outcome code input output working limit
-      unfolding outcome
-      refused-output h er =
-          let o : eqb (length output) (rowOf code .«output_len») ≡ false = ne-eqb _ _ (rw e at h) in
-          rw (er, lt-ltb code codes (asked-known code e known), input-fits, o)
+  pub call-output : answer ≡ 0 → length output ≡ rowOf code .«output_len»
+  call-output z = passed-length (length output) (rowOf code .«output_len») (passed-all z .1 .1 .0)
 
-      module _ (fits′ : length output ≡ p .row .«output_len») where
-        output-fits : eqb (length output) (rowOf code .«output_len») ≡ true
-        output-fits = eq-eqb _ _ (rw e at fits′)
+  pub call-decoded : (limit : ℕ) (x : Outcome) → answer ≡ 0 → x ≡ decoded code input limit → x ≡ outcome code input output working limit
+  unfolding outcome
+  call-decoded limit x z ex = rw (← e, z) ex
 
-        pub refused-working : {r : Report} → (length working ≡ p .row .«decode_bf_working_len» → ⊥) → r ≡ refusal 4
-            → left r output working ≡ outcome code input output working limit
-        unfolding outcome
-        refused-working h er =
-            let w : eqb (length working) (rowOf code .«decode_bf_working_len») ≡ false = ne-eqb _ _ (rw e at h) in
-            rw (er, lt-ltb code codes (asked-known code e known), input-fits, output-fits, w)
-
-        pub accepted-call : {x : Outcome} → length working ≡ p .row .«decode_bf_working_len» → x ≡ decoded code input limit → x ≡ outcome code input output working limit
-        unfolding outcome
-        accepted-call h ex =
-            let w : eqb (length working) (rowOf code .«decode_bf_working_len») ≡ true = eq-eqb _ _ (rw e at h) in
-            rw (lt-ltb code codes (asked-known code e known), input-fits, output-fits, w) ex
-
-        pub accepted-by : length working ≡ p .row .«decode_bf_working_len»
-            → Accepted code (p .row .n) (p .row .n + p .row .«punctured_bits» - p .row .k) (length input) (length output) (length working)
-        accepted-by h =
-            record { known = asked-known code e known; sent = rw e; checks = rw e; input-long = fits ∙ rw e; output-long = fits′ ∙ rw e; working-long = h ∙ rw e }
+pub ruleset calling = (answer-is, call-refused, call-accepted, call-output, call-decoded, needs)

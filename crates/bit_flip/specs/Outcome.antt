@@ -49,10 +49,15 @@ received code input = span (bitAt input) 0 (bitsIn code)
 abbrev pub punctured : ℕ → ℕ → Bool
 punctured code = fromOn (rowOf code .n) (bitsIn code)
 
+-- the word that all passes leave
+abbrev pub decodedWord : ℕ → List ℕ → ℕ → Decoded
+decodedWord code input limit =
+    decodeWord (edges code) (checksIn code) (punctured code) (rowOf code .«punctured_bits») limit (received code input)
+
 -- an accepted call: the word as bytes, and every working byte 0
 unfoldable pub decoded : ℕ → List ℕ → ℕ → Outcome
 decoded code input limit =
-    let d = decodeWord (edges code) (checksIn code) (punctured code) (rowOf code .«punctured_bits») limit (received code input) in
+    let d = decodedWord code input limit in
     left (d .report) (pack (wordOf (d .word)) (rowOf code .«output_len»)) (replicate (bitsIn code) 0)
 
 -- the tests of a call with buffers of these lengths, in order

@@ -7,7 +7,8 @@ use lib.Dec.{eqb, ltb, leb}
 use lib.ListN.{length}
 use Rattle.maths.specs.Tests.{pick, both}
 use Rattle.maths.specs.Lists.{span, fold}
-use Rattle.codes.specs.Codes.{Known, rowOf, checksIn}
+use Rattle.codes.specs.declared.CodeParams.{CodeParams}
+use Rattle.codes.specs.Codes.{Known, rowOf}
 use Rattle.codes.specs.Edges.{Edge}
 use Rattle.codes.specs.Equations.{checkOf, bitOf, checksOf, wordOf}
 use Rattle.runs.specs.Meets.{syndromeOf}
@@ -61,11 +62,9 @@ pub record Marked (erased : ℕ → Bool) (w b : List ℕ) : Type 0 where
   pub long : length b ≡ length w
   pub byte : (v : ℕ) → wordOf b v ≡ pick (erased v) 2 (wordOf w v)
 
--- an accepted call: the code's numbers, and the lengths of its buffers
-pub record Accepted (code n m input output working : ℕ) : Type 0 where
+-- an accepted call: the code's row, and the lengths of what is read and worked in
+pub record Accepted (code : ℕ) (row : CodeParams) (input working : ℕ) : Type 0 where
   pub known : Known code
-  pub sent : n ≡ rowOf code .n
-  pub checks : m ≡ checksIn code
+  pub is-row : row ≡ rowOf code
   pub input-long : input ≡ rowOf code .n / 8
-  pub output-long : output ≡ rowOf code .«output_len»
   pub working-long : working ≡ rowOf code .«decode_bf_working_len»

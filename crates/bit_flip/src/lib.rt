@@ -4,15 +4,19 @@ ghost use Prim.Native.Nat.{_-_, _*_, _≤_};
 ghost use lib.ListN.{length};
 ghost use Rattle.maths.specs.Lists.{span};
 ghost use Rattle.maths.specs.Bits.{bitAt};
+ghost use Rattle.codes.specs.Answers.{firstOf};
+ghost use Rattle.codes.specs.Codes.{rowOf};
 ghost use Rattle.runs.specs.Runs.{laid};
 ghost use Rattle.bit_flip.specs.Erasures.{filled, erasurePasses, fromOn};
-ghost use Rattle.bit_flip.specs.Outcome.{left, decodedTo, decodeWord, decoded, outcome};
+ghost use Rattle.bit_flip.specs.Outcome.{left, decodedTo, decodeWord, decodedWord, decoded, tests, outcome};
 ghost use Rattle.bit_flip.specs.Steps.{FewEdges, Accepted};
 use codes::ACCEPTED;
+use codes::CodeParams;
 use codes::MAX_CHECKS;
 use codes::WRONG_READ;
 use codes::WRONG_WORKING;
 use codes::WRONG_WRITTEN;
+use codes::or_length;
 use codes::params;
 use erasures::decode_erasures;
 use erasures::set_from;
@@ -67,34 +71,53 @@ fn decode_bits(
     finished(e.success, e.iters + count)
 }
 
+// The word of a known code, from what was received, one byte a bit.
+fn decode_word(
+    code: usize,
+    row: CodeParams,
+    input: &[u8],
+    bits: &mut [u8],
+    maxiters: usize,
+) -> Report
+    requires { ⌜ Accepted code row (length (now input)) (length (now bits)) ⌝ }
+    ensures { λ r. ⌜ decodedTo r (now (bits .exit)) ≡ decodedWord code (now (input .entry)) maxiters ⌝ }
+{
+    let n = row.n;
+    let m = n + row.punctured_bits - row.k;
+    let mut checks = [0u8; MAX_CHECKS];
+    let runs = runs_of(code);
+    let end = 3 * runs.count;
+    let triples = runs.triples;
+    decode_bits(input, n, &triples[..end], bits, &mut checks[..m], maxiters)
+}
+
 // The bits stand in the lent working buffer, which is cleared at the end.
 fn decode(
     code: usize,
-    n: usize,
-    m: usize,
+    row: CodeParams,
     input: &[u8],
     output: &mut [u8],
     working: &mut [u8],
     maxiters: usize,
 ) -> Report
-    requires { ⌜ Accepted code n m (length (now input)) (length (now output)) (length (now working)) ⌝ }
+    requires { ⌜ (Accepted code row (length (now input)) (length (now working))) × (length (now output) ≡ rowOf code .«output_len») ⌝ }
     ensures { λ r. ⌜ left r (now (output .exit)) (now (working .exit)) ≡ decoded code (now (input .entry)) maxiters ⌝ }
 {
-    let mut checks = [0u8; MAX_CHECKS];
-    let runs = runs_of(code);
-    let end = 3 * runs.count;
-    let triples = runs.triples;
-    let report = decode_bits(
-        input,
-        n,
-        &triples[..end],
-        working,
-        &mut checks[..m],
-        maxiters,
-    );
+    let report = decode_word(code, row, input, working, maxiters);
     bits::pack(working, output);
     bits::clear(working);
     report
+}
+
+// The answer to a call with buffers of these lengths.
+fn answer_of(code: usize, input: usize, output: usize, working: usize) -> u8
+    ensures { λ r. ⌜ r ≡ firstOf (tests code input output working) ⌝ }
+{
+    let asked = params(code);
+    let row = asked.row;
+    let read = or_length(asked.answer, input, row.n / 8, WRONG_READ);
+    let written = or_length(read, output, row.output_len, WRONG_WRITTEN);
+    or_length(written, working, row.decode_bf_working_len, WRONG_WORKING)
 }
 
 pub fn decode_bf(
@@ -106,20 +129,10 @@ pub fn decode_bf(
 ) -> Report
     ensures { λ r. ⌜ left r (now (output .exit)) (now (working .exit)) ≡ outcome code (now (input .entry)) (now (output .entry)) (now (working .entry)) maxiters ⌝ }
 {
-    let asked = params(code);
-    if asked.answer != ACCEPTED {
-        return refused(asked.answer);
+    let answer = answer_of(code, input.len(), output.len(), working.len());
+    if answer != ACCEPTED {
+        return refused(answer);
     }
-    let row = asked.row;
-    if input.len() != row.n / 8 {
-        return refused(WRONG_READ);
-    }
-    if output.len() != row.output_len {
-        return refused(WRONG_WRITTEN);
-    }
-    if working.len() != row.decode_bf_working_len {
-        return refused(WRONG_WORKING);
-    }
-    let m = row.n + row.punctured_bits - row.k;
-    decode(code, row.n, m, input, output, working, maxiters)
+    let row = params(code).row;
+    decode(code, row, input, output, working, maxiters)
 }

@@ -1,31 +1,39 @@
 -- Whether a word meets the equations of a code, as the functions ask it and as the theorems say it. Assumes nothing.
 use mathlib.Core.Bool.{Bool, true, false}
 use mathlib.Core.List.{List, [], _∷_}
-use mathlib.Core.Path.{_≡_, refl, ap, _∙_}
-use Prim.Native.Nat.{ℕ, _+_, _-_, _*_, _%_, _≤_}
+use mathlib.Core.Path.{_≡_, refl, sym, ap, _∙_}
+use Prim.Native.Nat.{ℕ, _+_, _-_, _*_, _%_, _≤_, _<_}
+use native.Mathlib.Decide.{decLt}
 use native.Mathlib.Omega.{arith}
-use borrow.Author.Tests.{eqb-true, eq-eqb, ne-eqb, lt-ltb}
+use borrow.Author.Needs.{needs}
+use borrow.Author.Tests.{eqb-true, eq-eqb, ne-eqb}
 use lib.Dec.{T, eqb}
 use lib.ListN.{length, take, replicate, length-append}
-use lib.Seq.{take-at}
+use lib.Seq.{take-at, length-take-le}
+use mir.Syntax.{w64}
+use mir.Val.{Fits}
 use Rattle.maths.specs.Tests.{all}
 use Rattle.maths.specs.Bits.{bitAt}
 use Rattle.maths.specs.Lists.{keep, largestOf}
 use Rattle.maths.proofs.Tests.{both-first, both-second, below-true, below-all, all-flatMap}
 use Rattle.maths.proofs.Lists.{keep-all, keep-holds}
-use Rattle.maths.proofs.Slices.{largest-none}
+use Rattle.maths.proofs.Slices.{largest-none, replicate-front-length}
 use Rattle.bits.specs.Packed.{unpacked}
 use Rattle.bits.proofs.Packed.{unpacked-word}
 use Rattle.runs.specs.declared.Runs.{Runs}
+use Rattle.codes.specs.declared.CodeParams.{CodeParams}
 use Rattle.codes.specs.declared.ParamsAnswer.{ParamsAnswer}
+use Rattle.codes.specs.Answers.{test, firstOf, orTest, unlike}
+use Rattle.codes.specs.Sound.{Roomy}
 use Rattle.codes.specs.Codes.{codes, Known, known, rowOf, paramsOf, bitsIn, checksIn, maxBits, maxChecks}
 use Rattle.codes.specs.Edges.{Edge, inRange, edges}
 use Rattle.runs.specs.Runs.{Run, runEdges, runs, numbers, room, runsOf, readRuns, within, laid}
 use Rattle.codes.specs.Equations.{par, Hold, Meets, wordOf}
-use Rattle.runs.specs.Meets.{holds, meetsTest, syndromeOf, metOf, Sizes}
-use Rattle.codes.proofs.Codes.{roomy, asked-unknown, asked-known}
+use Rattle.runs.specs.Meets.{holds, noneBroken, meetsTest, syndromeOf, meetTests, metOf, Accepted}
+use Rattle.codes.proofs.Answers.{answered, all-passed, passed-known, passed-length}
+use Rattle.codes.proofs.Codes.{roomy}
 use Rattle.runs.proofs.Stored.{numbers-length}
-use Rattle.runs.proofs.Filled.{runs-known, fills}
+use Rattle.runs.proofs.Filled.{runs-known, runs-unknown, fills}
 use Rattle.runs.proofs.Flat.{runs-flat, runs-within, run-ranged}
 
 -- ---- the test and what it says
@@ -56,63 +64,92 @@ pub laid-ranged : (m n : ℕ) (ns : List ℕ) → T (all (inRange m n) (laid m n
 unfolding laid
 laid-ranged m n ns = all-flatMap (within m n) (inRange m n) runEdges (keep (within m n) (readRuns ns)) (keep-holds (within m n) (readRuns ns)) (run-ranged m n)
 
-pub runs-few : (code : ℕ) → Known code → length (runs code) ≤ room
-runs-few code h = omega (arith, ap length (runs-known code h), fills code h .few)
+-- ---- the list of runs, as it is lent
+pub runs-few : (code : ℕ) → length (runs code) ≤ room
+runs-few code = go (decLt code codes)
+  where
+    go : Dec (code < codes) → length (runs code) ≤ room
+    go (yes h) = omega (arith, ap length (runs-known code h), fills code h .few)
+    go (no h) = rw (runs-unknown code (omega arith)) (omega arith)
 
-module _ (code : ℕ) {r : Runs} (e : r ≡ runsOf code) where
+module _ (code : ℕ) (r : Runs) (e : r ≡ runsOf code) where
+  pub runs-fit : Fits w64 (3 * r .count)
+  runs-fit = rw e (record { fits = omega (arith, runs-few code) })
+
   pub runs-room : 3 * r .count ≤ length (r .triples)
   runs-room =
       let n = length-append (numbers (runs code)) (replicate (3 * (room - length (runs code))) 0) in
       rw e (omega (arith, n, numbers-length (runs code)))
 
+  pub runs-lent : 3 * r .count ≡ length (take (3 * r .count) (r .triples))
+  runs-lent = sym (length-take-le (3 * r .count) (r .triples) runs-room)
+
   pub runs-taken : take (3 * r .count) (r .triples) ≡ numbers (runs code)
   runs-taken = rw e (take-at (numbers (runs code)) _ (3 * length (runs code)) (numbers-length (runs code)))
 
+-- n zeros of an array that holds k of them
+abbrev pub zeros : ℕ → ℕ → List ℕ
+zeros k n = take n (replicate k 0)
+
+pub zeros-lent : (k n : ℕ) → n ≤ k → n ≡ length (zeros k n)
+zeros-lent k n h = sym (replicate-front-length k 0 n h)
+
 -- ---- what the functions find
-pub met-by : (ns word bits : List ℕ) (m : ℕ) {bits′ checks : List ℕ} {r : ℕ} → bits′ ≡ unpacked word bits → length bits′ ≡ length bits
-    → checks ≡ syndromeOf (laid m (length bits′) ns) m (wordOf bits′) → r ≡ largestOf checks
-    → eqb r 0 ≡ holds (laid m (length bits) ns) m (wordOf (unpacked word bits))
-met-by ns word bits m {bits′} eb el ec er = rw (er, ec, ← eb, ← el) (none-broken (laid m (length bits′) ns) m (wordOf bits′))
+pub met-by : (ns word bits bits′ checks : List ℕ) (m n n′ r : ℕ) → r ≡ largestOf checks → checks ≡ syndromeOf (laid m n′ ns) m (wordOf bits′) → bits′ ≡ unpacked word bits → n′ ≡ n
+    → eqb r 0 ≡ noneBroken (laid m n ns) m (wordOf (unpacked word bits))
+unfolding noneBroken
+met-by ns word bits bits′ checks m n n′ r er ec eb en = rw (er, ec, eb, en)
 
-module _ {code n m : ℕ} (word : List ℕ) (s : Sizes code n m (length word)) where
-  pub bits-few : n ≤ maxBits
-  bits-few = omega (arith, s .bits, roomy code (s .known) .bits)
+-- ---- a word of a known code
+module _ (code : ℕ) (row : CodeParams) (bytes : ℕ) (a : Accepted code row bytes) where
+  pub row-roomy : Roomy row
+  row-roomy = rw (a .is-row) (roomy code (a .known))
 
-  pub checks-few : m ≤ maxChecks
-  checks-few = omega (arith, s .checks, roomy code (s .known) .checks)
+  pub bits-fit : Fits w64 (row .n + row .«punctured_bits»)
+  bits-fit = record { fits = omega (arith, row-roomy .bits) }
 
-  pub code-met : (d ns : List ℕ) (k : ℕ) → length d ≡ n → k ≡ m → ns ≡ numbers (runs code) → holds (laid k (length d) ns) k (wordOf (unpacked word d)) ≡ meetsTest code (bitAt word)
-  unfolding meetsTest
-  code-met d ns k ed ek en =
-      let b : length d ≡ bitsIn code = ed ∙ s .bits in
-      let c : k ≡ checksIn code = ek ∙ s .checks in
-      let w : wordOf (unpacked word d) ≡ bitAt word = unpacked-word word d (omega (arith, s .length, roomy code (s .known) .whole)) in
-      rw (w, b, c, en, laid-runs code (s .known))
+  pub data-low : row .k ≤ row .n + row .«punctured_bits»
+  data-low = omega (arith, row-roomy .k-low)
 
--- ---- the answers, by the parameters
-module _ (code : ℕ) {p : ParamsAnswer} (e : p ≡ paramsOf code) where
-  pub asked-sizes : (bytes : ℕ) → p .answer ≡ 0 → bytes ≡ p .row .«output_len»
-      → Sizes code (p .row .n + p .row .«punctured_bits») (p .row .n + p .row .«punctured_bits» - p .row .k) bytes
-  asked-sizes bytes h l = record { known = asked-known code e h; bits = rw e; checks = rw e; length = l ∙ rw e }
+  pub bits-few : row .n + row .«punctured_bits» ≤ maxBits
+  bits-few = row-roomy .bits
 
-  pub met-unknown : (word : List ℕ) → (p .answer ≡ 0 → ⊥) → record { answer = p .answer; met = false } ≡ metOf code word
+  pub checks-few : row .n + row .«punctured_bits» - row .k ≤ maxChecks
+  checks-few = row-roomy .checks
+
+pub code-met : (code : ℕ) (row : CodeParams) (word : List ℕ) (q : Runs) (r : Bool) → Accepted code row (length word) → q ≡ runsOf code
+    → (let checks = zeros maxChecks (row .n + row .«punctured_bits» - row .k) in
+    let bits = zeros maxBits (row .n + row .«punctured_bits») in
+    r ≡ noneBroken (laid (length checks) (length bits) (take (3 * q .count) (q .triples))) (length checks) (wordOf (unpacked word bits))) → r ≡ meetsTest code (bitAt word)
+unfolding meetsTest noneBroken
+code-met code row word q r a eq er =
+    let n = row .n + row .«punctured_bits» in
+    let l : length (zeros maxBits n) ≡ bitsIn code = sym (zeros-lent maxBits n (bits-few code row (length word) a)) ∙ rw (a .is-row) in
+    let k : length (zeros maxChecks (n - row .k)) ≡ checksIn code = sym (zeros-lent maxChecks (n - row .k) (checks-few code row (length word) a)) ∙ rw (a .is-row) in
+    let w : wordOf (unpacked word (zeros maxBits n)) ≡ bitAt word = unpacked-word word (zeros maxBits n) (omega (arith, a .long, l, roomy code (a .known) .whole)) in
+    er ∙ rw (w, l, k, runs-taken code q eq, laid-runs code (a .known)) (none-broken (edges code) (checksIn code) (bitAt word))
+
+pub ruleset meeting = (runs-fit, runs-room, runs-lent, zeros-lent, bits-fit, data-low, bits-few, checks-few, met-by, code-met, needs)
+
+-- ---- the answer
+module _ (code : ℕ) (word : List ℕ) (p : ParamsAnswer) (a : ℕ) (t : a ≡ orTest (p .answer) (test (unlike (length word) (p .row .«output_len»)) 2)) (e : p ≡ paramsOf code) where
+  met-answer : a ≡ firstOf (meetTests code (length word))
+  met-answer = t ∙ rw e (answered (meetTests code (length word)) tt)
+
+  pub met-refused : (a ≡ 0 → ⊥) → record { answer = a; met = false } ≡ metOf code word
   unfolding metOf
-  met-unknown word h =
-      let k = asked-unknown code e h in
-      rw (k .1, k .0)
+  met-refused h = rw (← met-answer, ne-eqb a 0 h)
 
-  pub met-unlike : (word : List ℕ) → p .answer ≡ 0 → (length word ≡ p .row .«output_len» → ⊥) → record { answer = 2; met = false } ≡ metOf code word
-  unfolding metOf
-  met-unlike word h k =
-      let u : eqb (length word) (rowOf code .«output_len») ≡ false = ne-eqb _ _ (rw e at k) in
-      rw (lt-ltb code codes (asked-known code e h), u)
+  pub met-accepted : a ≡ 0 → Accepted code (p .row) (length word)
+  met-accepted z =
+      let q = all-passed (meetTests code (length word)) tt (rw met-answer at z) in
+      record { known = passed-known code (q .0); is-row = rw e; long = passed-length (length word) (rowOf code .«output_len») (q .1 .0) }
 
-  pub met-found : (word : List ℕ) {r : Bool} → p .answer ≡ 0 → length word ≡ p .row .«output_len» → r ≡ meetsTest code (bitAt word)
-      → record { answer = 0; met = r } ≡ metOf code word
+  pub met-found : (r : Bool) → a ≡ 0 → r ≡ meetsTest code (bitAt word) → record { answer = a; met = r } ≡ metOf code word
   unfolding metOf
-  met-found word h k m =
-      let u : eqb (length word) (rowOf code .«output_len») ≡ true = eq-eqb _ _ (rw e at k) in
-      rw (lt-ltb code codes (asked-known code e h), u, m)
+  met-found r z m = rw (← met-answer, z, m)
+
+pub ruleset answering = (met-refused, met-accepted, met-found, needs)
 
 -- "met" says that the word is one of the code's and meets every equation
 module _ (code : ℕ) (word : List ℕ) where

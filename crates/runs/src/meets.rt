@@ -5,15 +5,17 @@ ghost use Rattle.maths.specs.Bits.{bitAt};
 ghost use Rattle.bits.specs.Packed.{unpacked};
 ghost use Rattle.runs.specs.Runs.{run, laid};
 ghost use Rattle.codes.specs.Equations.{wordOf};
-ghost use Rattle.runs.specs.Meets.{syndromeOf, holds, meetsTest, metOf, Sizes};
+ghost use Rattle.runs.specs.Meets.{syndromeOf, noneBroken, meetsTest, metOf, Accepted};
 ghost use Rattle.runs.specs.Steps.{add2, addBit, overRun};
 use crate::lies_within;
 use crate::run_at;
 use crate::runs_of;
 use codes::ACCEPTED;
+use codes::CodeParams;
 use codes::MAX_BITS;
 use codes::MAX_CHECKS;
 use codes::WRONG_READ;
+use codes::or_length;
 use codes::params;
 use codes::parity_iter::Bit;
 use codes::parity_iter::Check;
@@ -57,7 +59,7 @@ pub fn syndrome(triples: &[u16], bits: &[u8], checks: &mut [u8])
 }
 
 fn all_met(word: &[u8], triples: &[u16], bits: &mut [u8], checks: &mut [u8]) -> bool
-    ensures { λ r. ⌜ r ≡ holds (laid (length (now (checks .entry))) (length (now (bits .entry))) (now (triples .entry))) (length (now (checks .entry))) (wordOf (unpacked (now (word .entry)) (now (bits .entry)))) ⌝ }
+    ensures { λ r. ⌜ r ≡ noneBroken (laid (length (now (checks .entry))) (length (now (bits .entry))) (now (triples .entry))) (length (now (checks .entry))) (wordOf (unpacked (now (word .entry)) (now (bits .entry)))) ⌝ }
 {
     bits::unpack(word, bits);
     syndrome(triples, bits, checks);
@@ -65,10 +67,12 @@ fn all_met(word: &[u8], triples: &[u16], bits: &mut [u8], checks: &mut [u8]) -> 
 }
 
 // Whether the word, which has the length of the code's words, meets every equation.
-fn word_meets(code: usize, n: usize, m: usize, word: &[u8]) -> bool
-    requires { ⌜ Sizes code n m (length (now word)) ⌝ }
+fn word_meets(code: usize, row: CodeParams, word: &[u8]) -> bool
+    requires { ⌜ Accepted code row (length (now word)) ⌝ }
     ensures { λ r. ⌜ r ≡ meetsTest code (bitAt (now (word .entry))) ⌝ }
 {
+    let n = row.n + row.punctured_bits;
+    let m = n - row.k;
     let mut bits = [0u8; MAX_BITS];
     let mut checks = [0u8; MAX_CHECKS];
     let runs = runs_of(code);
@@ -82,22 +86,13 @@ pub fn meets(code: usize, word: &[u8]) -> Met
     ensures { λ r. ⌜ r ≡ metOf code (now (word .entry)) ⌝ }
 {
     let asked = params(code);
-    if asked.answer != ACCEPTED {
-        return Met {
-            answer: asked.answer,
-            met: false,
-        };
-    }
     let row = asked.row;
-    if word.len() != row.output_len {
-        return Met {
-            answer: WRONG_READ,
-            met: false,
-        };
+    let answer = or_length(asked.answer, word.len(), row.output_len, WRONG_READ);
+    if answer != ACCEPTED {
+        return Met { answer, met: false };
     }
-    let n = row.n + row.punctured_bits;
     Met {
-        answer: ACCEPTED,
-        met: word_meets(code, n, n - row.k, word),
+        answer,
+        met: word_meets(code, row, word),
     }
 }
