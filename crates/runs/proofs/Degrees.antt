@@ -20,7 +20,7 @@ use Rattle.codes.specs.Tables.{prototypes}
 use Rattle.codes.specs.Codes.{codes, Known, tables, Matrix, matrixOf}
 use Rattle.codes.specs.Blocks.{blockOf, blockAt, cellBlocks, rowBlocks, lastRows}
 use Rattle.codes.specs.Edges.{Edge, edge, blocksOf, edges}
-use Rattle.runs.specs.Runs.{Run, run, runEdges, turned, quarters, runsAt, blockRuns, runs}
+use Rattle.runs.specs.Runs.{Run, run, runEdges, turnedRuns, quarter, quarters, runsAt, blockRuns, runs}
 use Rattle.codes.specs.Equations.{ends, checkOf, bitOf, checksOf}
 use Rattle.codes.proofs.Codes.{sized}
 use Rattle.runs.proofs.Flat.{runs-flat}
@@ -111,11 +111,11 @@ unfolding flatMap
 degree-nil v = refl
 
 -- ---- a turned identity has one edge of a bit, the quarters of a permutation at most one each
-turned-few : (a b turn size v : ℕ) → turn < size → Few 1 b size v (degreeIn (turned a b turn size) v)
-unfolding turned
+turned-few : (a b turn size v : ℕ) → turn < size → Few 1 b size v (degreeIn (turnedRuns a b turn size) v)
+unfolding turnedRuns
 turned-few a b turn size v h = go (ℕ-discrete turn 0)
   where
-    go : Dec (turn ≡ 0) → Few 1 b size v (degreeIn (turned a b turn size) v)
+    go : Dec (turn ≡ 0) → Few 1 b size v (degreeIn (turnedRuns a b turn size) v)
     go (yes e) =
         rw (eq-eqb turn 0 e)
         (let d : degreeIn (run a b size ∷ []) v ≡ degree (runEdges (run a b size)) v =
@@ -131,7 +131,7 @@ turned-few a b turn size v h = go (ℕ-discrete turn 0)
 
 module _ (m : ℕ) (theta : List ℕ) (phi : List (List ℕ)) (value a b v : ℕ) (pos : zero < m / 4) where
   quarters-few : (j : ℕ) → Few j b (4 * (m / 4)) v (degreeIn (quarters m theta phi value a b j) v)
-  unfolding quarters
+  unfolding quarters quarter
   quarters-few zero = rw (degree-nil v) (few-none 0 b (4 * (m / 4)) v)
   quarters-few (suc j) =
       let q = m / 4 in
@@ -141,7 +141,7 @@ module _ (m : ℕ) (theta : List ℕ) (phi : List (List ℕ)) (value a b v : ℕ
       let hm : z * q ≤ 3 * q = mul-le-mul-right q hz in
       let f = few-wider 1 b (4 * q) (omega arith) (omega arith) (omega arith) (turned-few (a + j * q) (b + z * q) s q v (mod-lt _ pos)) in
       let n : j + 1 ≡ suc j = omega arith in
-      rw (degree-join (quarters m theta phi value a b j) (turned (a + j * q) (b + z * q) s q) v, ← n) (few-both (quarters-few j) f)
+      rw (degree-join (quarters m theta phi value a b j) (turnedRuns (a + j * q) (b + z * q) s q) v, ← n) (few-both (quarters-few j) f)
 
 block-few : (x : Matrix) (k : Block) (a b v : ℕ) → zero < x .size → zero < x .size / 4 → x .size % 4 ≡ 0
     → Few 4 b (x .size) v (degreeIn (runsAt (x .size) (x .theta) (x .phi) k a b) v)

@@ -22,7 +22,7 @@ use Rattle.codes.specs.Codes.{codes, Known, rows, tables, bitsIn, checksIn, Mat
 use Rattle.codes.specs.Blocks.{blockOf, blockAt, cellBlocks, rowBlocks, lastRows}
 use Rattle.codes.specs.Edges.{Edge, edge, inRange, columnOf, permutationColumn, edgeAt, blockEdges, blocksOf, edges}
 use Rattle.codes.specs.Walk.{solid}
-use Rattle.runs.specs.Runs.{Run, run, runEdges, turned, quarters, runsAt, blockRuns, runs, within}
+use Rattle.runs.specs.Runs.{Run, run, runEdges, turnedRuns, quarter, quarters, runsAt, blockRuns, runs, within}
 use Rattle.codes.proofs.Codes.{sized}
 
 -- a run, and two runs
@@ -35,14 +35,14 @@ two-runs r s = flatMap-cons runEdges r (s ∷ []) ∙ ap (λ (es : List Edge). r
 
 -- the edges of a turned identity
 pub turned-edges : (a v turn size : ℕ) → turn < size
-    → flatMap runEdges (turned a v turn size) ≡ span (λ i. edge (a + i) (v + (turn + i) % size)) 0 size
-unfolding turned runEdges
+    → flatMap runEdges (turnedRuns a v turn size) ≡ span (λ i. edge (a + i) (v + (turn + i) % size)) 0 size
+unfolding turnedRuns runEdges
 turned-edges a v turn size h = go (ℕ-discrete turn 0)
   where
     f : ℕ → Edge
     f i = edge (a + i) (v + (turn + i) % size)
 
-    go : Dec (turn ≡ 0) → flatMap runEdges (turned a v turn size) ≡ span f 0 size
+    go : Dec (turn ≡ 0) → flatMap runEdges (turnedRuns a v turn size) ≡ span f 0 size
     go (yes e) =
         rw (eq-eqb turn 0 e) (one-run (run a v size) ∙ span-ext _ f 0 0 size (λ k l. rw (zero-add k, e, zero-add k, mod-eq-of-lt l)))
     go (no e) =
@@ -70,7 +70,7 @@ turned-edges a v turn size h = go (ℕ-discrete turn 0)
 
 -- an identity block
 identity-edges : (m a v value : ℕ) → zero < m
-    → flatMap runEdges (turned a v (value % m) m) ≡ span (λ i. edge (a + i) (v + (i + value) % m)) 0 m
+    → flatMap runEdges (turnedRuns a v (value % m) m) ≡ span (λ i. edge (a + i) (v + (i + value) % m)) 0 m
 identity-edges m a v value pos =
     turned-edges a v (value % m) m (mod-lt value pos)
     ∙ span-ext _ _ 0 0 m (λ k l. rw (mod-add-mod value m (0 + k), add-comm value (0 + k)))
@@ -94,7 +94,7 @@ module _ (x : Matrix) (a v value : ℕ) (pos : zero < x .size / 4) where
       (ap₂ edge (let e : a + j * q + k ≡ a + (j * q + k) = omega arith in e) (let e : v + z * q + (s + k) % q ≡ v + (z * q + (s + k) % q) = omega arith in e))
 
   quarters-edges : (j : ℕ) → flatMap runEdges (quarters (x .size) (x .theta) (x .phi) value a v j) ≡ span entry 0 (j * (x .size / 4))
-  unfolding quarters flatMap span
+  unfolding quarters quarter flatMap span
   quarters-edges zero = rw (let e : 0 * (x .size / 4) ≡ 0 = omega arith in e)
   quarters-edges (suc j) =
       let q = x .size / 4 in
@@ -145,7 +145,7 @@ runs-flat code = go (decLt code codes)
 
 -- every run lies within the checks and bits of its code
 all-within : T (below codes (λ code. all (within (checksIn code) (bitsIn code)) (runs code)))
-unfolding rows tables prototypes thetas phis blockOf cellBlocks rowBlocks lastRows flatMap blocksOf runs blockRuns turned quarters
+unfolding rows tables prototypes thetas phis blockOf cellBlocks rowBlocks lastRows flatMap blocksOf runs blockRuns turnedRuns quarters quarter
 all-within = tt
 
 pub runs-within : (code : ℕ) → Known code → T (all (within (checksIn code) (bitsIn code)) (runs code))

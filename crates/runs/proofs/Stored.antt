@@ -1,15 +1,25 @@
 -- A list of triples that is filled run by run. Assumes nothing.
 use mathlib.Core.Path.{_≡_, refl, sym, ap, _∙_}
 use mathlib.Core.List.{List, [], _∷_, _++_}
-use Prim.Native.Nat.{ℕ, zero, suc, _+_, _-_, _*_, _/_, _%_, _≤_}
+use Prim.Native.Nat.{ℕ, zero, suc, _+_, _-_, _*_, _/_, _%_, _≤_, _<_}
+use native.Mathlib.Nat.{mod-lt}
 use native.Mathlib.Omega.{arith}
+use borrow.Author.Needs.{needs}
 use borrow.Author.Tests.{eq-eqb, ne-eqb}
 use lib.ListN.{length, getD, set, length-append}
 use lib.Dec.{eqb}
+use mir.Syntax.{w64}
+use mir.Val.{Fits}
 use native.Mathlib.Numerals.{add-one}
 use Rattle.maths.proofs.Tests.{pick-both}
 use Rattle.maths.proofs.Stores.{sets-append}
-use Rattle.runs.specs.Runs.{Run, run, turned, quarters, numbers, Stored}
+use Rattle.codes.specs.declared.«parity_iter».Place.{Place}
+use Rattle.codes.specs.declared.«parity_iter».Block.{Block}
+use Rattle.codes.specs.declared.«parity_iter».Block.the-variants.{Ends, Empty, Identity, Permutation}
+use Rattle.codes.specs.Codes.{made}
+use Rattle.codes.specs.Blocks.{blockAt}
+use Rattle.runs.specs.Runs.{Run, run, turnedRuns, quarter, quarters, runsAt, blockRuns, numbers, Stored}
+use Rattle.runs.specs.Sound.{TurnFits, QuarterFits, BlockFits, PlaceFits}
 
 pub numbers-append : (ds es : List Run) → numbers (ds ++ es) ≡ numbers ds ++ numbers es
 unfolding numbers
@@ -40,39 +50,108 @@ stored-run l t a v s =
     let e₂ : 3 * t + 2 ≡ suc (suc (3 * t)) = omega arith in
     record { is = rw (e₁, e₂); count = refl }
 
-module _ (a v turn size : ℕ) {l l′ : List ℕ} {t t′ : ℕ} where
-  pub stored-whole : turn ≡ 0 → Stored l t (run a v size ∷ []) l′ t′ → Stored l t (turned a v turn size) l′ t′
-  unfolding turned
-  stored-whole e p = rw (eq-eqb turn 0 e) p
+module _ (a v turn size : ℕ) (l l′ : List ℕ) (t t′ : ℕ) where
+  pub stored-whole : Stored l t (run a v size ∷ []) l′ t′ → turn ≡ 0 → Stored l t (turnedRuns a v turn size) l′ t′
+  unfolding turnedRuns
+  stored-whole p e = rw (eq-eqb turn 0 e) p
 
-  pub stored-turned : {l″ : List ℕ} {t″ : ℕ} → (turn ≡ 0 → ⊥)
-      → Stored l t (run a (v + turn) (size - turn) ∷ []) l′ t′ → Stored l′ t′ (run (a + (size - turn)) v turn ∷ []) l″ t″
-      → Stored l t (turned a v turn size) l″ t″
-  unfolding turned
-  stored-turned e p q = rw (ne-eqb turn 0 e) (stored-then p q)
+  pub stored-turned : (l″ : List ℕ) (t″ : ℕ) → Stored l′ t′ (run (a + (size - turn)) v turn ∷ []) l″ t″ → Stored l t (run a (v + turn) (size - turn) ∷ []) l′ t′
+      → (turn ≡ 0 → ⊥) → Stored l t (turnedRuns a v turn size) l″ t″
+  unfolding turnedRuns
+  stored-turned l″ t″ q p e = rw (ne-eqb turn 0 e) (stored-then p q)
 
-pub turned-few : (a v turn size : ℕ) → length (turned a v turn size) ≤ 2
-unfolding turned
+turned-few : (a v turn size : ℕ) → length (turnedRuns a v turn size) ≤ 2
+unfolding turnedRuns
 turned-few a v turn size = pick-both (λ (ds : List Run). length ds ≤ 2) (eqb turn 0) _ _ (omega arith) (omega arith)
 
 module _ (m : ℕ) (theta : List ℕ) (phi : List (List ℕ)) (value a v : ℕ) where
-  pub quarters-few : (j : ℕ) → length (quarters m theta phi value a v j) ≤ 2 * j
+  quarter-few : (j : ℕ) → length (quarter m theta phi value a v j) ≤ 2
+  unfolding quarter
+  quarter-few j = turned-few _ _ _ (m / 4)
+
+  quarters-few : (j : ℕ) → length (quarters m theta phi value a v j) ≤ 2 * j
   unfolding quarters
   quarters-few zero = omega arith
-  quarters-few (suc j) =
-      let q = m / 4 in
-      let x = a + j * q in
-      let y = v + (getD theta value 0 + j) % 4 * q in
-      let s = getD (getD phi j []) value 0 % q in
-      omega (arith, length-append (quarters m theta phi value a v j) (turned x y s q), quarters-few j, turned-few x y s q)
+  quarters-few (suc j) = omega (arith, length-append (quarters m theta phi value a v j) (quarter m theta phi value a v j), quarters-few j, quarter-few j)
 
-  module _ {l l′ l″ : List ℕ} {t t′ t″ : ℕ} where
-    pub stored-quarters : {x y s : ℕ} (j : ℕ) → Stored l t (quarters m theta phi value a v j) l′ t′
-        → x ≡ a + j * (m / 4) → y ≡ v + (getD theta value 0 + j) % 4 * (m / 4) → s ≡ getD (getD phi j []) value 0 % (m / 4)
-        → Stored l′ t′ (turned x y s (m / 4)) l″ t″ → Stored l t (quarters m theta phi value a v (j + 1)) l″ t″
-    unfolding quarters
-    stored-quarters j p ex ey es q = rw add-one (stored-then p (rw (ex, ey, es) at q))
+-- ---- a quarter, from what the functions find: x and y are j * (m / 4) and so for the bits
+module _ (t a v m value j : ℕ) (f : QuarterFits t a v m value j) where
+  pub quarter-size : m / 4 < 65536
+  quarter-size = omega (arith, f .check-low)
 
-  pub quarters-none : (l : List ℕ) (t : ℕ) → Stored l t (quarters m theta phi value a v 0) l t
+  pub quarter-adds : (b x : ℕ) → b + m < 65536 → x ≤ 3 * (m / 4) → Fits w64 (b + x)
+  quarter-adds b x h k = record { fits = omega arith }
+
+  pub quarter-fits : (s x y : ℕ) → x ≤ 3 * (m / 4) → y ≤ 3 * (m / 4) → TurnFits t (a + x) (v + y) (s % (m / 4)) (m / 4)
+  quarter-fits s x y hx hy =
+      record { free = f .free; turn-low = mod-lt s (omega (arith, f .sized .low)); check-low = omega (arith, f .check-low); bit-low = omega (arith, f .bit-low) }
+
+pub quarter-stored : (m : ℕ) (theta : List ℕ) (phi : List (List ℕ)) (value a v j t t′ r s x y : ℕ) (l l′ : List ℕ) → Stored l t (turnedRuns (a + x) (v + y) (s % (m / 4)) (m / 4)) l′ t′
+    → x ≡ j * (m / 4) → y ≡ (r + j) % 4 * (m / 4) → r ≡ getD theta value 0 → s ≡ getD (getD phi j []) value 0 → Stored l t (quarter m theta phi value a v j) l′ t′
+unfolding quarter
+quarter-stored m theta phi value a v j t t′ r s x y l l′ p ex ey er es = rw (← er, ← es, ← ex, ← ey) p
+
+-- ---- the loop over the quarters, of which j are stored
+pub record Quartering (m : ℕ) (theta : List ℕ) (phi : List (List ℕ)) (value a v t j : ℕ) (l₀ l : List ℕ) (u : ℕ) : Type 0 where
+  pub low : j ≤ 4
+  pub stored : Stored l₀ t (quarters m theta phi value a v j) l u
+
+module _ {m : ℕ} {theta : List ℕ} {phi : List (List ℕ)} {value a v t : ℕ} {l₀ : List ℕ} where
+  pub quarters-begin : Quartering m theta phi value a v t 0 l₀ l₀ t
   unfolding quarters
-  quarters-none l t = stored-none l t
+  quarters-begin = record { low = omega arith; stored = stored-none l₀ t }
+
+  module _ {j u : ℕ} {l : List ℕ} (q : Quartering m theta phi value a v t j l₀ l u) where
+    pub quarters-fit : j < 4 → BlockFits t a v m (Permutation value) → QuarterFits u a v m value j
+    quarters-fit h f =
+        record {
+          sized = f .sized;
+          free = omega (arith, q .stored .count, quarters-few m theta phi value a v j, f .free);
+          check-low = f .check-low;
+          bit-low = f .bit-low;
+          value-low = f .small;
+          j-low = h;
+        }
+
+    pub quarters-more : {u′ : ℕ} {l′ : List ℕ} → j < 4 → Stored l u (quarter m theta phi value a v j) l′ u′ → Quartering m theta phi value a v t (j + 1) l₀ l′ u′
+    unfolding quarters
+    quarters-more h p = record { low = omega arith; stored = rw add-one (stored-then (q .stored) p) }
+
+    pub quarters-end : 4 ≤ j → Stored l₀ t (quarters m theta phi value a v 4) l u
+    quarters-end h =
+        let e : j ≡ 4 = omega (arith, q .low) in
+        rw e at (q .stored)
+
+-- ---- a block, by its kind
+module _ (m : ℕ) (theta : List ℕ) (phi : List (List ℕ)) (k : Block) (a v t : ℕ) (l : List ℕ) where
+  pub block-ends : k ≡ Ends → Stored l t (runsAt m theta phi k a v) l t
+  block-ends e = rw e (stored-none l t)
+
+  pub block-empty : k ≡ Empty → Stored l t (runsAt m theta phi k a v) l t
+  block-empty e = rw e (stored-none l t)
+
+  module _ (value t′ : ℕ) (l′ : List ℕ) where
+    pub block-identity : k ≡ Identity value → Stored l t (turnedRuns a v (value % m) m) l′ t′ → Stored l t (runsAt m theta phi k a v) l′ t′
+    block-identity e p = rw e p
+
+    pub block-permutation : k ≡ Permutation value → Stored l t (quarters m theta phi value a v 4) l′ t′ → Stored l t (runsAt m theta phi k a v) l′ t′
+    block-permutation e p = rw e p
+
+module _ (t a v m : ℕ) (k : Block) (value : ℕ) (f : BlockFits t a v m k) where
+  pub identity-fits : TurnFits t a v (value % m) m
+  identity-fits = record { free = omega (arith, f .free); turn-low = mod-lt value (omega (arith, f .sized .low)); check-low = f .check-low; bit-low = f .bit-low }
+
+  pub permutation-fits : k ≡ Permutation value → BlockFits t a v m (Permutation value)
+  permutation-fits e = rw e at f
+
+-- the block at a place
+module _ (m : ℕ) (theta : List ℕ) (phi : List (List ℕ)) (h : List (List (List ℕ))) (t : ℕ) (p : Place) (k : Block) where
+  pub place-fits : PlaceFits (made m theta phi h) t p → k ≡ blockAt h p → BlockFits t (p .row * m) (p .col * m) m k
+  place-fits f e = rw e (f .fits)
+
+  pub place-stored : (t′ : ℕ) (l l′ : List ℕ) → Stored l t (runsAt m theta phi k (p .row * m) (p .col * m)) l′ t′ → k ≡ blockAt h p → Stored l t (blockRuns (made m theta phi h) p) l′ t′
+  unfolding blockRuns
+  place-stored t′ l l′ s e = rw e at s
+
+pub ruleset storing =
+    (stored-run, stored-whole, stored-turned, quarter-size, quarter-adds, quarter-fits, quarter-stored, quarters-begin, quarters-fit, quarters-more, quarters-end, block-ends, block-empty, block-identity, block-permutation, identity-fits, permutation-fits, place-fits, place-stored, needs)

@@ -5,9 +5,10 @@ use mathlib.Core.Path.{_≡_, refl, sym, _∙_}
 use Prim.Native.Nat.{ℕ, zero, suc, _+_, _-_, _*_, _/_, _≤_, _<_}
 use native.Mathlib.Omega.{arith}
 use native.Mathlib.Decide.{decLe}
+use borrow.Author.Needs.{needs}
 use borrow.Author.Tests.{leb-true, le-leb, lt-leb}
 use lib.Dec.{leb}
-use lib.ListN.{length, getD}
+use lib.ListN.{length, getD, List·getD-eq-default}
 use Rattle.maths.specs.Tests.{pick}
 use Rattle.maths.specs.Lists.{fold, keep}
 use Rattle.maths.proofs.Tests.{both-first, both-second, both-false}
@@ -40,16 +41,33 @@ read-at (a ∷ v ∷ l ∷ ns) (suc i) h =
     read-at ns i (omega arith)
     ∙ rw (past a v l ns (3 * suc i) (3 * i) (omega arith), past a v l ns (3 * suc i + 1) (3 * i + 1) (omega arith), past a v l ns (3 * suc i + 2) (3 * i + 2) (omega arith))
 
+-- run i is read, or is not there
+pub run-read : (ns : List ℕ) (i a v l : ℕ) → i < length ns / 3 → a ≡ getD ns (3 * i) 0 → v ≡ getD ns (3 * i + 1) 0 → l ≡ getD ns (3 * i + 2) 0 → run a v l ≡ getD (readRuns ns) i (run 0 0 0)
+run-read ns i a v l h ea ev el = rw (ea, ev, el) (sym (read-at ns i h))
+
+pub run-none : (ns : List ℕ) (i : ℕ) → length ns / 3 ≤ i → run 0 0 0 ≡ getD (readRuns ns) i (run 0 0 0)
+run-none ns i h = sym (List·getD-eq-default (readRuns ns) (run 0 0 0) (omega (arith, read-length ns)))
+
 -- ---- whether a run lies within, asked of differences
 module _ (m n a v l : ℕ) where
-  pub high-check : m < a + l → false ≡ within m n (run a v l)
-  high-check h = rw (lt-leb (a + l) m h)
+  over-checks : m < a + l → false ≡ within m n (run a v l)
+  over-checks h = rw (lt-leb (a + l) m h)
 
-  pub high-bit : n < v + l → false ≡ within m n (run a v l)
-  high-bit h = rw (lt-leb (v + l) n h, both-false)
+  pub many-checks : m < l → false ≡ within m n (run a v l)
+  many-checks h = over-checks (omega arith)
 
-  pub low-check : a + l ≤ m → l ≤ n → leb v (n - l) ≡ within m n (run a v l)
-  low-check h k = rw (le-leb (a + l) m h) (go (decLe v (n - l)))
+  pub many-bits : n < l → false ≡ within m n (run a v l)
+  many-bits h =
+      let k : n < v + l = omega arith in
+      rw (lt-leb (v + l) n k, both-false)
+
+  pub high-check : m - l < a → l ≤ m → false ≡ within m n (run a v l)
+  high-check h k = over-checks (omega arith)
+
+  pub low-check : a ≤ m - l → l ≤ m → l ≤ n → leb v (n - l) ≡ within m n (run a v l)
+  low-check h k j =
+      let w : a + l ≤ m = omega arith in
+      rw (le-leb (a + l) m w) (go (decLe v (n - l)))
     where
       go : Dec (v ≤ n - l) → leb v (n - l) ≡ leb (v + l) n
       go (yes q) = le-leb v (n - l) q ∙ sym (le-leb (v + l) n (omega arith))
@@ -57,6 +75,8 @@ module _ (m n a v l : ℕ) where
 
   pub within-low : within m n (run a v l) ≡ true → (a + l ≤ m) × (v + l ≤ n)
   within-low e = (leb-true (a + l) m (both-first (leb (a + l) m) (leb (v + l) n) e), leb-true (v + l) n (both-second (leb (a + l) m) (leb (v + l) n) e))
+
+pub ruleset reading = (run-read, run-none, many-checks, many-bits, high-check, low-check, needs)
 
 -- ---- a fold over the runs that lie within is one over their edges
 module _ {S : Type 0} (m n : ℕ) (step : Edge → S → S) where

@@ -33,22 +33,24 @@ abbrev pub within : ℕ → ℕ → Run → Bool
 within m n r = both (leb (r .check + r .size) m) (leb (r .bit + r .size) n)
 
 -- size edges from check a on, whose bits are v, .., v + size - 1 turned by turn
-unfoldable pub turned : ℕ → ℕ → ℕ → ℕ → List Run
-turned a v turn size =
+unfoldable pub turnedRuns : ℕ → ℕ → ℕ → ℕ → List Run
+turnedRuns a v turn size =
     pick (eqb turn 0) (run a v size ∷ []) (run a (v + turn) (size - turn) ∷ run (a + (size - turn)) v turn ∷ [])
 
--- the first j quarters of a permutation block of the size m, whose first check is a and first bit v
+-- quarter j of a permutation block of the size m, whose first check is a and first bit v, and the first j quarters
+unfoldable pub quarter : ℕ → List ℕ → List (List ℕ) → ℕ → ℕ → ℕ → ℕ → List Run
+quarter m theta phi value a v j =
+    turnedRuns (a + j * (m / 4)) (v + (getD theta value 0 + j) % 4 * (m / 4)) (getD (getD phi j []) value 0 % (m / 4)) (m / 4)
+
 unfoldable pub quarters : ℕ → List ℕ → List (List ℕ) → ℕ → ℕ → ℕ → ℕ → List Run
 quarters m theta phi value a v zero = []
-quarters m theta phi value a v (suc j) =
-    quarters m theta phi value a v j
-    ++ turned (a + j * (m / 4)) (v + (getD theta value 0 + j) % 4 * (m / 4)) (getD (getD phi j []) value 0 % (m / 4)) (m / 4)
+quarters m theta phi value a v (suc j) = quarters m theta phi value a v j ++ quarter m theta phi value a v j
 
 -- the runs of a block whose first check is a and first bit v
 abbrev pub runsAt : ℕ → List ℕ → List (List ℕ) → Block → ℕ → ℕ → List Run
 runsAt m theta phi Ends a v = []
 runsAt m theta phi Empty a v = []
-runsAt m theta phi (Identity value) a v = turned a v (value % m) m
+runsAt m theta phi (Identity value) a v = turnedRuns a v (value % m) m
 runsAt m theta phi (Permutation value) a v = quarters m theta phi value a v 4
 
 unfoldable pub blockRuns : Matrix → Place → List Run

@@ -3,11 +3,11 @@ ghost use mathlib.Core.Path.{_≡_};
 ghost use mathlib.Core.List.{[], _∷_, flatMap};
 ghost use Prim.Native.Nat.{_+_, _*_, _/_, _<_, _≤_};
 ghost use lib.ListN.{getD};
+ghost use Rattle.codes.specs.declared.«parity_iter».Block.the-variants.{Permutation};
 ghost use Rattle.codes.specs.Codes.{made};
 ghost use Rattle.codes.specs.Blocks.{blocks};
-ghost use Rattle.runs.specs.Runs.{run, within, turned, quarters, runsAt, blockRuns, runsOf, readRuns, room, Stored};
-ghost use Rattle.codes.specs.Sound.{Small};
-ghost use Rattle.runs.specs.Sound.{Fits, Fills};
+ghost use Rattle.runs.specs.Runs.{run, within, turnedRuns, quarter, quarters, runsAt, blockRuns, runsOf, readRuns, room, Stored};
+ghost use Rattle.runs.specs.Sound.{TurnFits, QuarterFits, BlockFits, PlaceFits, RunsFit};
 use codes::ACCEPTED;
 use codes::compact_parity_checks::THETA_K;
 use codes::params;
@@ -15,6 +15,7 @@ use codes::parity_iter::Bit;
 use codes::parity_iter::Block;
 use codes::parity_iter::Check;
 use codes::parity_iter::Found;
+use codes::parity_iter::Place;
 use codes::parity_iter::block_of;
 use codes::parity_iter::byte;
 use codes::parity_iter::first_block;
@@ -60,8 +61,8 @@ fn put_turned(
     turn: usize,
     size: usize,
 ) -> usize
-    requires { ⌜ (t + 2 ≤ room) × ((turn < size) × ((check .0 + size < 65536) × (bit .0 + size < 65536))) ⌝ }
-    ensures { λ r. ⌜ Stored (now (triples .entry)) t (turned (check .0) (bit .0) turn size) (now (triples .exit)) r ⌝ }
+    requires { ⌜ TurnFits t (check .0) (bit .0) turn size ⌝ }
+    ensures { λ r. ⌜ Stored (now (triples .entry)) t (turnedRuns (check .0) (bit .0) turn size) (now (triples .exit)) r ⌝ }
 {
     if turn == 0 {
         return put_run(triples, t, check, bit, size);
@@ -79,7 +80,29 @@ fn times(j: usize, q: usize) -> usize
     j * q
 }
 
-// The four quarters of a permutation, each a turned identity.
+// A quarter of a permutation, a turned identity.
+fn put_quarter(
+    triples: &mut [u16; TRIPLES],
+    t: usize,
+    check: Check,
+    bit: Bit,
+    value: usize,
+    m: usize,
+    theta: &[u8; 26],
+    phi: &[[u16; 26]; 4],
+    j: usize,
+) -> usize
+    requires { ⌜ QuarterFits t (check .0) (bit .0) m value j ⌝ }
+    ensures { λ r. ⌜ Stored (now (triples .entry)) t (quarter m (now (theta .entry)) (now (phi .entry)) value (check .0) (bit .0) j) (now (triples .exit)) r ⌝ }
+{
+    let q = m / 4;
+    let turn = byte(theta[value]);
+    let x = check.0 + times(j, q);
+    let y = bit.0 + times((turn + j) % 4, q);
+    let s = wide(phi[j][value]) % q;
+    put_turned(triples, t, Check(x), Bit(y), s, q)
+}
+
 fn put_quarters(
     triples: &mut [u16; TRIPLES],
     t: usize,
@@ -90,16 +113,12 @@ fn put_quarters(
     theta: &[u8; 26],
     phi: &[[u16; 26]; 4],
 ) -> usize
-    requires { ⌜ Fits t (check .0) (bit .0) m × (value < 26) ⌝ }
+    requires { ⌜ BlockFits t (check .0) (bit .0) m (Permutation value) ⌝ }
     ensures { λ r. ⌜ Stored (now (triples .entry)) t (quarters m (now (theta .entry)) (now (phi .entry)) value (check .0) (bit .0) 4) (now (triples .exit)) r ⌝ }
 {
     let mut u = t;
-    let q = m / 4;
-    let turn = byte(theta[value]);
     for j in 0..4 {
-        let x = check.0 + times(j, q);
-        let y = bit.0 + times((turn + j) % 4, q);
-        u = put_turned(triples, u, Check(x), Bit(y), wide(phi[j][value]) % q, q);
+        u = put_quarter(triples, u, check, bit, value, m, theta, phi, j);
     }
     u
 }
@@ -114,7 +133,7 @@ fn put_block(
     theta: &[u8; 26],
     phi: &[[u16; 26]; 4],
 ) -> usize
-    requires { ⌜ Fits t (check .0) (bit .0) m × Small block ⌝ }
+    requires { ⌜ BlockFits t (check .0) (bit .0) m block ⌝ }
     ensures { λ r. ⌜ Stored (now (triples .entry)) t (runsAt m (now (theta .entry)) (now (phi .entry)) block (check .0) (bit .0)) (now (triples .exit)) r ⌝ }
 {
     match block {
@@ -125,6 +144,34 @@ fn put_block(
     }
 }
 
+fn put_place(
+    triples: &mut [u16; TRIPLES],
+    t: usize,
+    p: Place,
+    m: usize,
+    theta: &[u8; 26],
+    phi: &[[u16; 26]; 4],
+    h: &[[[u8; 11]; 4]; 3],
+) -> usize
+    requires { ⌜ PlaceFits (made m (now theta) (now phi) (now h)) t p ⌝ }
+    ensures { λ r. ⌜ Stored (now (triples .entry)) t (blockRuns (made m (now (theta .entry)) (now (phi .entry)) (now (h .entry))) p) (now (triples .exit)) r ⌝ }
+{
+    let row = p.row;
+    let col = p.col;
+    let l = p.layer;
+    let block = block_of(h[l][row][col]);
+    put_block(
+        triples,
+        t,
+        block,
+        Check(row * m),
+        Bit(col * m),
+        m,
+        theta,
+        phi,
+    )
+}
+
 // The blocks are found as the walk finds them.
 fn fill(
     triples: &mut [u16; TRIPLES],
@@ -133,7 +180,7 @@ fn fill(
     phi: &[[u16; 26]; 4],
     h: &[[[u8; 11]; 4]; 3],
 ) -> usize
-    requires { ⌜ Fills (made m (now theta) (now phi) (now h)) ⌝ }
+    requires { ⌜ RunsFit (made m (now theta) (now phi) (now h)) ⌝ }
     ensures { λ r. ⌜ Stored (now (triples .entry)) 0 (flatMap (blockRuns (made m (now (theta .entry)) (now (phi .entry)) (now (h .entry)))) (blocks (now (h .entry)))) (now (triples .exit)) r ⌝ }
 {
     let mut t: usize = 0;
@@ -141,20 +188,7 @@ fn fill(
     loop {
         match found {
             Found::At(p) => {
-                let row = p.row;
-                let col = p.col;
-                let l = p.layer;
-                let block = block_of(h[l][row][col]);
-                t = put_block(
-                    triples,
-                    t,
-                    block,
-                    Check(row * m),
-                    Bit(col * m),
-                    m,
-                    theta,
-                    phi,
-                );
+                t = put_place(triples, t, p, m, theta, phi, h);
                 found = next_block(h, p);
             }
             Found::Nothing => return t,
