@@ -1,10 +1,12 @@
 -- Unpacking and packing, byte by byte, and what the bits are. Assumes nothing.
-use mathlib.Core.List.{List}
-use mathlib.Core.Path.{_≡_, refl, sym, _∙_, fun-ext}
+use mathlib.Core.List.{List, [], _∷_}
+use mathlib.Core.Path.{_≡_, refl, sym, ap, _∙_, fun-ext}
 use Prim.Native.Nat.{ℕ, suc, _+_, _*_, _-_, _/_, _%_, _^_, _≤_, _<_}
 use native.Mathlib.Decide.{decLt}
+use native.Mathlib.Nat.{add-zero}
 use native.Mathlib.Omega.{arith}
-use lib.ListN.{length, getD, List·getD-eq-default}
+use lib.ListN.{length, getD, set, List·getD-eq-default}
+use lib.Seq.{sets}
 use Rattle.maths.specs.Bits.{bitAt}
 use Rattle.maths.specs.Bytes.{byte, pack}
 use Rattle.maths.specs.Lists.{span}
@@ -45,7 +47,27 @@ unpacked-word s d e = fun-ext (λ v. go v (decLt v (length d)))
         let n : length (unpacked s d) ≤ v = omega (arith, overwrite-length (bitAt s) d (8 * wholeBytes (length s) (length d)) (omega (arith, all))) in
         List·getD-eq-default (unpacked s d) 0 n ∙ sym (bitAt-past s v (omega arith))
 
+-- eight stores, one after the other
+pub eight-stored : (l : List ℕ) (v a b c d e f g h : ℕ)
+    → set (set (set (set (set (set (set (set l v a) (v + 1) b) (v + 2) c) (v + 3) d) (v + 4) e) (v + 5) f) (v + 6) g) (v + 7) h
+    ≡ sets l v (a ∷ b ∷ c ∷ d ∷ e ∷ f ∷ g ∷ h ∷ [])
+eight-stored l v a b c d e f g h =
+    let n1 : v + 1 ≡ suc v = omega arith in
+    let n2 : v + 2 ≡ suc (suc v) = omega arith in
+    let n3 : v + 3 ≡ suc (suc (suc v)) = omega arith in
+    let n4 : v + 4 ≡ suc (suc (suc (suc v))) = omega arith in
+    let n5 : v + 5 ≡ suc (suc (suc (suc (suc v)))) = omega arith in
+    let n6 : v + 6 ≡ suc (suc (suc (suc (suc (suc v))))) = omega arith in
+    let n7 : v + 7 ≡ suc (suc (suc (suc (suc (suc (suc v)))))) = omega arith in
+    rw (n1, n2, n3, n4, n5, n6, n7)
+
 -- ---- packing: bytes that a list of bits fills
 pub packed-whole : (w d : List ℕ) → 8 * length d ≡ length w → packed w d ≡ pack (λ v. getD w v 0) (length d)
 unfolding pack
 packed-whole w d e = overwrite-all (byte (λ v. getD w v 0)) d (wholeBytes (length d) (length w)) refl (omega arith) (omega arith)
+
+-- the byte of eight bits, as it is summed
+pub packed-byte : (w : List ℕ) (v : ℕ)
+    → getD w v 0 % 2 * 128 + getD w (v + 1) 0 % 2 * 64 + getD w (v + 2) 0 % 2 * 32 + getD w (v + 3) 0 % 2 * 16 + getD w (v + 4) 0 % 2 * 8 + getD w (v + 5) 0 % 2 * 4 + getD w (v + 6) 0 % 2 * 2 + getD w (v + 7) 0 % 2
+    ≡ byte (λ t. getD w (v + t) 0) 0
+packed-byte w v = omega (arith, ap (λ (i : ℕ). getD w i 0) (add-zero v))

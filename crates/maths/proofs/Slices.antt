@@ -12,7 +12,7 @@ use lib.ListN.{length, getD, set, take, drop, replicate, length-append, length-d
 use lib.Seq.{sets, drop-cons, set-at, set-getD, getD-at, getD-append-add, ext-getD}
 use Rattle.maths.specs.Tests.{both, below}
 use Rattle.maths.specs.Lists.{span, fold, largestOf, overwrite}
-use Rattle.maths.proofs.Lists.{span-split, span-length, getD-span}
+use Rattle.maths.proofs.Lists.{span-split, span-length, getD-span, map-span}
 
 -- ---- what stands in a span
 pub span-get : {A : Type 0} (f : ℕ → A) (d : A) (n i : ℕ) → i < n → getD (span f 0 n) i d ≡ f i
@@ -52,16 +52,7 @@ span-padded l n h = sym (span-is 0 (l ++ zeros) (λ i. getD l i 0) n (length-app
             ∙ sym (List·getD-eq-default l 0 (omega arith))
 
 pub span-map : {A : Type 0} (d : A) (g : A → A) (l : List A) → span (λ i. g (getD l i d)) 0 (length l) ≡ map g l
-span-map {A} d g l = sym (span-is d (map g l) _ (length l) (mapped-length l) (mapped-at l))
-  where
-    mapped-length : (l : List A) → length (map g l) ≡ length l
-    mapped-length [] = refl
-    mapped-length (x ∷ l) = ap suc (mapped-length l)
-
-    mapped-at : (l : List A) (i : ℕ) → i < length l → getD (map g l) i d ≡ g (getD l i d)
-    mapped-at [] i h = absurd (not-suc-le-zero h)
-    mapped-at (x ∷ l) zero h = refl
-    mapped-at (x ∷ l) (suc i) h = mapped-at l i (le-of-suc-le-suc h)
+span-map d g l = sym (map-span (λ i. getD l i d) g 0 (length l)) ∙ ap (map g) (span-again d l)
 
 -- a list of one element many times, read past its end too
 pub replicate-at : {A : Type 0} (n : ℕ) (x : A) (i : ℕ) → getD (replicate n x) i x ≡ x
