@@ -12,7 +12,7 @@ use Rattle.codes.specs.Edges.{blocksOf}
 use Rattle.codes.proofs.Codes.{tmCodes, tm-at}
 use Rattle.matrices.specs.Circulants.{Circ, circs, circsAt, blockCircs}
 use Rattle.matrices.proofs.Sizes.{bitBlocks}
-use Rattle.low_weights.proofs.Light.{noneIn}
+use Rattle.low_weights.proofs.FewOnes.{noneIn}
 use Rattle.telemetry.proofs.Sizes.{sentBlocks, thirdBlock}
 use Rattle.tm_distance.proofs.Reduced.{reduced}
 

@@ -8,7 +8,7 @@ use Rattle.matrices.specs.Circulants.{circs}
 use Rattle.matrices.proofs.Sizes.{checkBlocks, bitBlocks, sizes}
 use Rattle.low_weights.specs.Weights.{LeastWeight}
 use Rattle.low_weights.proofs.Weights.{even-rows}
-use Rattle.low_weights.proofs.Light.{heavy}
+use Rattle.low_weights.proofs.FewOnes.{heavy}
 use Rattle.telemetry.proofs.Sizes.{sentBlocks, puncturedBlocks, thirdBlock, cut}
 use Rattle.telemetry.proofs.Alone.{all-alone}
 use Rattle.tm_distance.proofs.Reduced.{reduced-even}
