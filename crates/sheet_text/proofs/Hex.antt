@@ -4,17 +4,15 @@ use mathlib.Core.List.{List, [], _∷_}
 use mathlib.Core.Path.{_≡_, refl, _∙_}
 use Prim.Native.Nat.{ℕ, zero, suc, _+_, _-_, _*_, _/_, _%_, _≤_, _<_}
 use native.Mathlib.Omega.{arith}
-use borrow.Author.Tests.{eqb-true, eq-eqb, ne-eqb, ltb-true, lt-ltb, le-leb, lt-leb}
+use borrow.Author.Tests.{eqb-true, eq-eqb, ltb-true, lt-ltb, le-leb, lt-leb}
 use lib.Dec.{eqb, ltb→lt}
 use lib.ListN.{length, getD, take, drop, length-drop}
 use lib.Seq.{sets, length-take-le}
 use Rattle.maths.specs.Tests.{all}
 use Rattle.maths.specs.Bytes.{Bytes}
 use Rattle.maths.proofs.Tests.{both-first, both-second, all-at, true-T}
-use Rattle.sheet_text.specs.declared.values.Op.{Op}
-use Rattle.sheet_text.specs.declared.read.Reading.the-variants.{Asks}
 use Rattle.sheet_text.specs.Text.{hex}
-use Rattle.sheet_text.specs.Reading.{valueOf, hexDigit, hexText, unhex, sheet, placed, unhexed}
+use Rattle.sheet_text.specs.Reading.{valueOf, hexDigit, hexText, unhex, unhexed}
 use Rattle.sheet_text.proofs.Glyphs.{value-glyph, glyph-value, plain, plain-glyph}
 
 pub hex-even : (v : List ℕ) → hexText v ≡ true → length v % 2 ≡ 0
@@ -39,23 +37,6 @@ digits-length s from to g h e =
     let v = take (to - from) (drop from s) in
     let n : length v ≡ to - from = length-take-le (to - from) (drop from s) (omega (arith, length-drop from s)) in
     omega (arith, unhex-length v (hex-even v e))
-
--- whether the text ends with the newline at a place
-module _ (s : List ℕ) (to : ℕ) where
-  pub more-left : to < length s → (to + 1 ≡ length s → ⊥) → eqb (length (drop (to + 1) s)) 0 ≡ false
-  more-left h n = ne-eqb (length (drop (to + 1) s)) 0 (λ e. n (omega (arith, length-drop (to + 1) s)))
-
-  pub none-left : to + 1 ≡ length s → eqb (length (drop (to + 1) s)) 0 ≡ true
-  none-left e = eq-eqb (length (drop (to + 1) s)) 0 (omega (arith, length-drop (to + 1) s))
-
-  -- the frame's digits stand before it
-  pub frame-placed : (from code : ℕ) (op : Op) (maxiters : ℕ) → from ≤ to → to + 1 ≡ length s → hexText (take (to - from) (drop from s)) ≡ true
-      → Asks (record { code = code; op = op; maxiters = maxiters; start = from; digits = to - from })
-      ≡ placed (length s) (sheet code op maxiters (unhex (take (to - from) (drop from s))))
-  frame-placed from code op maxiters g e t =
-      let n = digits-length s from to g (omega arith) t in
-      let f : length s - 1 - (to - from) ≡ from = omega arith in
-      rw (n, f)
 
 -- ---- what is read was spelled, and what is spelled is read
 all-yes : (a b : ℕ) (s : List ℕ) → all hexDigit (a ∷ b ∷ s) ≡ true → (valueOf a < 16) × ((valueOf b < 16) × (all hexDigit s ≡ true))

@@ -2,26 +2,36 @@
 use mathlib.Core.Bool.{Bool, true, false}
 use mathlib.Core.List.{List, [], _∷_}
 use mathlib.Core.Path.{_≡_, refl, sym, ap, subst, _∙_}
-use Prim.Native.Nat.{ℕ, suc, _+_, _-_, _≤_, _<_}
+use Prim.Native.Nat.{ℕ, suc, _+_, _-_, _^_, _≤_, _<_}
 use native.Mathlib.Nat.{add-sub-cancel-left}
 use native.Mathlib.Omega.{arith}
-use borrow.Author.Tests.{ltb-true, ltb-false, lt-ltb, le-ltb}
+use borrow.Author.Needs.{needs}
+use borrow.Author.Tests.{not-true, not-false, ltb-true, ltb-false, lt-ltb, le-ltb, le-leb, lt-leb, eq-eqb, ne-eqb}
 use lib.Dec.{ltb, eqb}
 use lib.ListN.{length, take, drop, length-append, length-drop}
 use lib.Seq.{drop-drop, take-all}
+use mir.Syntax.{w64}
+use mir.Val.{Fits}
 use Rattle.maths.specs.Tests.{pick, both}
 use Rattle.codes.specs.Answers.{test, firstOf}
+use Rattle.sheet_text.specs.declared.values.Op.{Op}
+use Rattle.sheet_text.specs.declared.values.Number.{Number}
+use Rattle.sheet_text.specs.declared.values.Number.the-variants.{Is, NoNumber}
+use Rattle.sheet_text.specs.declared.values.Named.{Named}
+use Rattle.sheet_text.specs.declared.values.Named.the-variants.{Names, NoName}
 use Rattle.sheet_text.specs.declared.read.Line.{Line}
 use Rattle.sheet_text.specs.declared.read.Line.the-variants.{Missing, Between}
 use Rattle.sheet_text.specs.declared.read.Reading.{Reading}
-use Rattle.sheet_text.specs.Text.{newline}
-use Rattle.sheet_text.specs.Reading.{begins, lineEnd, Sheet, malformed, sheet, field, parse, lineAt, placed, readOf, textNumber, unread, readAnswer}
+use Rattle.sheet_text.specs.declared.read.Reading.the-variants.{Malformed, Asks}
+use Rattle.sheet_text.specs.Text.{newline, longest}
+use Rattle.sheet_text.specs.Reading.{begins, hexText, unhex, lineEnd, Sheet, malformed, sheet, field, withNumber, withOp, fromCode, parse, lineAt, placed, readOf, textNumber, unread, readAnswer}
 use Rattle.sheet_text.proofs.Fields.{begins-word}
+use Rattle.sheet_text.proofs.Hex.{digits-length}
 
-pub begins-low : (w s : List ℕ) → begins w s ≡ true → length w ≤ length s
+begins-low : (w s : List ℕ) → begins w s ≡ true → length w ≤ length s
 begins-low w s e = omega (arith, ap length (begins-word w s e), length-append w (drop (length w) s))
 
-pub lineEnd-low : (s : List ℕ) → lineEnd s ≤ length s
+lineEnd-low : (s : List ℕ) → lineEnd s ≤ length s
 unfolding lineEnd
 lineEnd-low [] = omega arith
 lineEnd-low (b ∷ s) = go (eqb b newline) (lineEnd-low s)
@@ -50,8 +60,8 @@ module _ (s : List ℕ) (at : ℕ) (key : List ℕ) {r : Bool} (e : r ≡ begins
       value-ends : lineEnd (drop (at + length key) s) ≡ n
       value-ends = sym (rw (rest-whole s (at + length key)) at g)
 
-      pub value-fits : at + length key + n ≤ length s
-      value-fits = omega (arith, key-fits, value-ends, lineEnd-low (drop (at + length key) s), length-drop (at + length key) s)
+      pub value-fits : length s < 2 ^ 64 → Fits w64 (at + length key + n)
+      value-fits l = record { fits = omega (arith, key-fits, value-ends, lineEnd-low (drop (at + length key) s), length-drop (at + length key) s) }
 
       pub line-found : at + length key + n < length s → Between (at + length key) (at + length key + n) ≡ lineAt s at key
       line-found l = rw (key-there ∙ t, value-ends, lt-ltb (at + length key + n) (length s) l)
@@ -59,9 +69,11 @@ module _ (s : List ℕ) (at : ℕ) (key : List ℕ) {r : Bool} (e : r ≡ begins
       pub line-open : length s ≤ at + length key + n → Missing ≡ lineAt s at key
       line-open l = rw (key-there ∙ t, value-ends, le-ltb (at + length key + n) (length s) l)
 
+pub ruleset finds = (key-missing, key-fits, value-fits, line-found, line-open, not-true, not-false, needs)
+
 module _ (s : List ℕ) (at : ℕ) (key : List ℕ) (more : List ℕ → List ℕ → Sheet) where
   -- what a found line says of the text from there on
-  abbrev pub Told : Line → Type 0
+  abbrev Told : Line → Type 0
   Told Missing = field key (drop at s) more ≡ malformed
   Told (Between from to) = (from ≤ to) × ((to < length s) × (field key (drop at s) more ≡ more (take (to - from) (drop from s)) (drop (to + 1) s)))
 
@@ -97,13 +109,82 @@ module _ (s : List ℕ) (at : ℕ) (key : List ℕ) (more : List ℕ → List �
         ),
       )
 
-  pub told : (r : Line) → at ≤ length s → r ≡ lineAt s at key → Told r
+  told : (r : Line) → at ≤ length s → r ≡ lineAt s at key → Told r
   told r h e = subst Told (sym e) (told-go h (begins key (drop at s)) refl (ltb stop (length s)) refl)
+
+-- ---- a reader of a line, by the line r that was found: its value stands inside the text
+module _ (s : List ℕ) (at : ℕ) (key : List ℕ) (r : Line) (from to : ℕ) (e : r ≡ Between from to) (f : r ≡ lineAt s at key) (h : at ≤ length s) where
+  lies : (more : List ℕ → List ℕ → Sheet) → Told s at key more (Between from to)
+  lies more = told s at key more (Between from to) h (sym e ∙ f)
+
+  pub line-ordered : from ≤ to
+  line-ordered = lies (λ _ _. malformed) .0
+
+  pub line-inside : to ≤ length s
+  line-inside = omega (arith, lies (λ _ _. malformed) .1 .0)
+
+  pub line-after : to + 1 ≤ length s
+  line-after = omega (arith, lies (λ _ _. malformed) .1 .0)
+
+  pub line-fits : length s < 2 ^ 64 → Fits w64 (to + 1)
+  line-fits l = record { fits = omega (arith, lies (λ _ _. malformed) .1 .0) }
+
+  -- the reader answers what its value and the text after it say
+  pub line-read : (n : ℕ) (more : List ℕ → List ℕ → Sheet) (x : Reading) → x ≡ placed n (more (take (to - from) (drop from s)) (drop (to + 1) s))
+      → x ≡ placed n (field key (drop at s) more)
+  line-read n more x g = rw (lies more .1 .1) g
+
+pub line-missing : (s : List ℕ) (at : ℕ) (key : List ℕ) (r : Line) (n : ℕ) (more : List ℕ → List ℕ → Sheet) → r ≡ Missing → r ≡ lineAt s at key → at ≤ length s
+    → Malformed ≡ placed n (field key (drop at s) more)
+line-missing s at key r n more e f h = rw (told s at key more Missing h (sym e ∙ f))
+
+-- what a value says, by the answer y of the function that read it
+pub number-none : (n : ℕ) (x y : Number) (more : ℕ → Sheet) → y ≡ NoNumber → y ≡ x → Malformed ≡ placed n (withNumber x more)
+number-none n x y more e f = rw (sym f ∙ e)
+
+pub number-read : (n k : ℕ) (x y : Number) (more : ℕ → Sheet) (z : Reading) → y ≡ Is k → y ≡ x → z ≡ placed n (more k) → z ≡ placed n (withNumber x more)
+number-read n k x y more z e f g = rw (sym f ∙ e) g
+
+pub op-none : (n : ℕ) (x y : Named) (more : Op → Sheet) → y ≡ NoName → y ≡ x → Malformed ≡ placed n (withOp x more)
+op-none n x y more e f = rw (sym f ∙ e)
+
+pub op-read : (n : ℕ) (k : Op) (x y : Named) (more : Op → Sheet) (z : Reading) → y ≡ Names k → y ≡ x → z ≡ placed n (more k) → z ≡ placed n (withOp x more)
+op-read n k x y more z e f g = rw (sym f ∙ e) g
+
+-- the frame's digits are none, are not the text's last, or are read
+module _ (v : List ℕ) (b : Bool) (e : b ≡ hexText v) where
+  pub frame-none : (n : ℕ) (last : Bool) (x : Sheet) → b ≡ false → Malformed ≡ placed n (pick (both (hexText v) last) x malformed)
+  frame-none n last x f = rw (sym e ∙ f)
+
+  pub frame-not-last : (s : List ℕ) (to n : ℕ) (x : Sheet) → b ≡ true → (to + 1 ≡ length s → ⊥) → to + 1 ≤ length s
+      → Malformed ≡ placed n (pick (both (hexText v) (eqb (length (drop (to + 1) s)) 0)) x malformed)
+  frame-not-last s to n x t g h =
+      rw (sym e ∙ t, ne-eqb (length (drop (to + 1) s)) 0 (λ z. g (omega (arith, length-drop (to + 1) s))))
+
+pub frame-read : (s : List ℕ) (from to code : ℕ) (op : Op) (maxiters : ℕ) (b : Bool) → b ≡ hexText (take (to - from) (drop from s)) → b ≡ true → to + 1 ≡ length s → from ≤ to
+    → Asks (record { code = code; op = op; maxiters = maxiters; start = from; digits = to - from })
+    ≡ placed (length s)
+    (pick (both (hexText (take (to - from) (drop from s))) (eqb (length (drop (to + 1) s)) 0)) (sheet code op maxiters (unhex (take (to - from) (drop from s)))) malformed)
+frame-read s from to code op maxiters b e t l h =
+    let n = digits-length s from to h (omega arith) (sym e ∙ t) in
+    let f : length s - 1 - (to - from) ≡ from = omega arith in
+    rw (sym e ∙ t, eq-eqb (length (drop (to + 1) s)) 0 (omega (arith, length-drop (to + 1) s)), n, f)
+
+pub ruleset lines = (line-ordered, line-inside, line-after, line-fits, line-read, line-missing, number-none, number-read, op-none, op-read, frame-none, frame-not-last, frame-read, not-true, not-false, needs)
 
 -- ---- the promise of `read`, by what it read
 number-of : (n : ℕ) (x : Sheet) → textNumber (placed n x) ≡ firstOf (test (unread x) 9 ∷ [])
 number-of n malformed = refl
 number-of n (sheet code op maxiters frame) = refl
 
-pub read-so : (s : List ℕ) {r : Reading} → r ≡ readOf s → (r ≡ readOf s) × (textNumber r ≡ readAnswer s)
-read-so s e = (e, ap textNumber e ∙ number-of (length s) (parse s))
+module _ (s : List ℕ) where
+  read-so : {r : Reading} → r ≡ readOf s → (r ≡ readOf s) × (textNumber r ≡ readAnswer s)
+  read-so e = (e, ap textNumber e ∙ number-of (length s) (parse s))
+
+  pub read-long : longest < length s → (Malformed ≡ readOf s) × (textNumber Malformed ≡ readAnswer s)
+  unfolding parse
+  read-long h = read-so (rw (lt-leb (length s) longest h))
+
+  pub read-short : (r : Reading) → length s ≤ longest → r ≡ placed (length s) (fromCode s) → (r ≡ readOf s) × (textNumber r ≡ readAnswer s)
+  unfolding parse
+  read-short r h e = read-so (rw (le-leb (length s) longest h) e)

@@ -2,7 +2,7 @@
 ghost use mathlib.Core.Path.{_≡_};
 ghost use Prim.Native.Nat.{_≤_};
 ghost use lib.ListN.{length, drop};
-ghost use Rattle.sheet_text.specs.Reading.{lineEnd, lineAt, placed, fromOp, fromLimit, fromFrame, readOf, textNumber, readAnswer};
+ghost use Rattle.sheet_text.specs.Reading.{lineEnd, lineAt, placed, fromCode, fromOp, fromLimit, fromFrame, readOf, textNumber, readAnswer};
 use crate::values::Named;
 use crate::values::Number;
 use crate::values::Op;
@@ -111,6 +111,19 @@ fn op_line(text: &[u8], at: usize, code: usize) -> Reading
     limit_line(text, to + 1, code, op)
 }
 
+fn code_line(text: &[u8], at: usize) -> Reading
+    requires { ⌜ at ≤ length (now text) ⌝ }
+    ensures { λ r. ⌜ r ≡ placed (length (now (text .entry))) (fromCode (drop at (now (text .entry)))) ⌝ }
+{
+    let Line::Between(from, to) = find_line(text, at, b"code=") else {
+        return Reading::Malformed;
+    };
+    let Number::Is(code) = digit_of(&text[from..to]) else {
+        return Reading::Malformed;
+    };
+    op_line(text, to + 1, code)
+}
+
 // Reads a sheet: its parts, or that it is malformed.
 pub fn read(text: &[u8]) -> Reading
     ensures { λ r. ⌜ (r ≡ readOf (now (text .entry))) × (textNumber r ≡ readAnswer (now (text .entry))) ⌝ }
@@ -118,11 +131,5 @@ pub fn read(text: &[u8]) -> Reading
     if text.len() > LONGEST {
         return Reading::Malformed;
     }
-    let Line::Between(from, to) = find_line(text, 0, b"code=") else {
-        return Reading::Malformed;
-    };
-    let Number::Is(code) = digit_of(&text[from..to]) else {
-        return Reading::Malformed;
-    };
-    op_line(text, to + 1, code)
+    code_line(text, 0)
 }
