@@ -1,10 +1,11 @@
--- One turn, and the end, of each loop that reads a list from the front. Assumes nothing.
-use mathlib.Core.Bool.{Bool, true, false}
+-- The loops that read a list from the front: what holds at a turn, why it holds at the next, and what is so at the end. Assumes nothing.
+use mathlib.Core.Bool.{true, false}
 use mathlib.Core.List.{List, [], _∷_}
 use mathlib.Core.Path.{_≡_, refl}
-use Prim.Native.Nat.{ℕ, _+_, _*_, _≤_, _<_}
+use Prim.Native.Nat.{ℕ, _+_, _*_, _%_, _≤_, _<_}
 use native.Mathlib.Numerals.{add-one}
 use native.Mathlib.Omega.{arith}
+use borrow.Author.Needs.{needs}
 use borrow.Author.Tests.{lt-ltb, le-ltb, le-leb, lt-leb, eq-eqb, ne-eqb}
 use lib.Dec.{eqb}
 use lib.ListN.{length, getD, drop, drop-of-length-le}
@@ -14,84 +15,125 @@ use Rattle.maths.proofs.Tests.{both-false}
 use Rattle.sheet_text.specs.declared.values.Number.{Number}
 use Rattle.sheet_text.specs.declared.values.Number.the-variants.{Is, NoNumber}
 use Rattle.sheet_text.specs.Text.{newline, largest}
-use Rattle.sheet_text.specs.Reading.{valueOf, numberFrom, numberOf, begins, lineEnd}
+use Rattle.sheet_text.specs.Reading.{valueOf, numberFrom, numberOf, begins, hexDigit, hexText, lineEnd}
 
-module _ (s : List ℕ) (i : ℕ) where
-  pub next : i < length s → drop i s ≡ getD s i 0 ∷ drop (i + 1) s
-  next h = rw (add-one, drop-cons s i 0)
+pub next : (s : List ℕ) (i : ℕ) → i < length s → drop i s ≡ getD s i 0 ∷ drop (i + 1) s
+next s i h = rw (add-one, drop-cons s i 0)
 
-  -- a test of every element
-  module _ (f : ℕ → Bool) {whole : Bool} (inv : all f (drop i s) ≡ whole) where
-    pub all-more : i < length s → f (getD s i 0) ≡ true → all f (drop (i + 1) s) ≡ whole
-    all-more h e = rw e at (rw (next h) at inv)
+-- ---- hex digits, so far i of them
+pub record Hexes (v : List ℕ) (i : ℕ) : Type 0 where
+  pub low : i ≤ length v
+  pub rest : all hexDigit (drop i v) ≡ hexText v
 
-    pub all-not : i < length s → f (getD s i 0) ≡ false → false ≡ whole
-    all-not h e = rw e at (rw (next h) at inv)
+module _ (v : List ℕ) where
+  pub hexes-odd : (length v % 2 ≡ 0 → ⊥) → false ≡ hexText v
+  unfolding hexText
+  hexes-odd n = rw (ne-eqb (length v % 2) 0 n)
 
-    pub all-end : length s ≤ i → true ≡ whole
-    all-end h = rw (drop-of-length-le s h) at inv
+  pub hexes-begin : length v % 2 ≡ 0 → Hexes v 0
+  unfolding hexText
+  hexes-begin e = record { low = omega arith; rest = rw (eq-eqb (length v % 2) 0 e) }
 
-  -- the bytes before a newline
-  module _ {whole : ℕ} (inv : i + lineEnd (drop i s) ≡ whole) where
-    pub end-more : i < length s → (getD s i 0 ≡ newline → ⊥) → i + 1 + lineEnd (drop (i + 1) s) ≡ whole
+  module _ (i : ℕ) (r : Hexes v i) where
+    pub hexes-end : length v ≤ i → true ≡ hexText v
+    hexes-end h = rw (drop-of-length-le v h) at (r .rest)
+
+    module _ (d : ℕ) (h : i < length v) (e : d ≡ valueOf (getD v i 0)) where
+      pub hexes-more : d < 16 → Hexes v (i + 1)
+      hexes-more l = record { low = omega arith; rest = rw (lt-ltb (valueOf (getD v i 0)) 16 (omega arith)) at (rw (next v i h) at (r .rest)) }
+
+      pub hexes-not : 16 ≤ d → false ≡ hexText v
+      hexes-not l = rw (le-ltb (valueOf (getD v i 0)) 16 (omega arith)) at (rw (next v i h) at (r .rest))
+
+-- ---- the bytes before a newline: none of the first i is one
+pub record Ending (s : List ℕ) (i : ℕ) : Type 0 where
+  pub low : i ≤ length s
+  pub rest : i + lineEnd (drop i s) ≡ lineEnd s
+
+module _ (s : List ℕ) where
+  pub end-begin : Ending s 0
+  end-begin = record { low = omega arith; rest = omega arith }
+
+  module _ (i : ℕ) (r : Ending s i) where
+    pub end-more : i < length s → (getD s i 0 ≡ newline → ⊥) → Ending s (i + 1)
     unfolding lineEnd
-    end-more h n = omega (arith, rw (ne-eqb (getD s i 0) newline n) at (rw (next h) at inv))
+    end-more h n = record { low = omega arith; rest = omega (arith, rw (ne-eqb (getD s i 0) newline n) at (rw (next s i h) at (r .rest))) }
 
-    pub end-found : i < length s → getD s i 0 ≡ newline → i ≡ whole
+    pub end-found : i < length s → getD s i 0 ≡ newline → i ≡ lineEnd s
     unfolding lineEnd
-    end-found h e = omega (arith, rw (eq-eqb (getD s i 0) newline e) at (rw (next h) at inv))
+    end-found h e = omega (arith, rw (eq-eqb (getD s i 0) newline e) at (rw (next s i h) at (r .rest)))
 
-    pub end-none : i ≤ length s → length s ≤ i → length s ≡ whole
+    pub end-none : length s ≤ i → length s ≡ lineEnd s
     unfolding lineEnd
-    end-none g h = omega (arith, rw (drop-of-length-le s h) at inv)
+    end-none h = omega (arith, rw (drop-of-length-le s h) at (r .rest), r .low)
 
-  -- the digits of a number
-  module _ (n : ℕ) {whole : Number} (inv : numberFrom n (drop i s) ≡ whole) where
-    pub number-more : i < length s → valueOf (getD s i 0) < 10 → 10 * n + valueOf (getD s i 0) ≤ largest
-        → numberFrom (10 * n + valueOf (getD s i 0)) (drop (i + 1) s) ≡ whole
+-- ---- the digits of a number: n is what the first i say
+pub record Digits (v : List ℕ) (n i : ℕ) : Type 0 where
+  pub low : i ≤ length v
+  pub small : n ≤ largest
+  pub rest : numberFrom n (drop i v) ≡ numberFrom 0 v
+
+module _ (v : List ℕ) where
+  pub digits-begin : Digits v 0 0
+  digits-begin = record { low = omega arith; small = omega arith; rest = refl }
+
+  module _ (n i : ℕ) (r : Digits v n i) where
+    pub digits-end : length v ≤ i → Is n ≡ numberFrom 0 v
     unfolding numberFrom
-    number-more h d l =
-        rw (lt-ltb (valueOf (getD s i 0)) 10 d, le-leb (10 * n + valueOf (getD s i 0)) largest l) at (rw (next h) at inv)
+    digits-end h = rw (drop-of-length-le v h) at (r .rest)
 
-    pub number-none : i < length s → 10 ≤ valueOf (getD s i 0) → NoNumber ≡ whole
-    unfolding numberFrom
-    number-none h d = rw (le-ltb (valueOf (getD s i 0)) 10 d) at (rw (next h) at inv)
+    module _ (d : ℕ) (h : i < length v) (e : d ≡ valueOf (getD v i 0)) where
+      pub digits-more : d < 10 → 10 * n + d ≤ largest → Digits v (10 * n + d) (i + 1)
+      unfolding numberFrom
+      digits-more l g =
+          record {
+            low = omega arith;
+            small = g;
+            rest = rw e (rw (lt-ltb (valueOf (getD v i 0)) 10 (omega arith), le-leb (10 * n + valueOf (getD v i 0)) largest (omega arith)) at (rw (next v i h) at (r .rest)));
+          }
 
-    pub number-large : i < length s → valueOf (getD s i 0) < 10 → largest < 10 * n + valueOf (getD s i 0) → NoNumber ≡ whole
-    unfolding numberFrom
-    number-large h d l =
-        rw (lt-ltb (valueOf (getD s i 0)) 10 d, lt-leb (10 * n + valueOf (getD s i 0)) largest l) at (rw (next h) at inv)
+      pub digits-not : 10 ≤ d → NoNumber ≡ numberFrom 0 v
+      unfolding numberFrom
+      digits-not l = rw (le-ltb (valueOf (getD v i 0)) 10 (omega arith)) at (rw (next v i h) at (r .rest))
 
-    pub number-end : length s ≤ i → Is n ≡ whole
-    unfolding numberFrom
-    number-end h = rw (drop-of-length-le s h) at inv
+      pub digits-large : d < 10 → largest < 10 * n + d → NoNumber ≡ numberFrom 0 v
+      unfolding numberFrom
+      digits-large l g =
+          rw (lt-ltb (valueOf (getD v i 0)) 10 (omega arith), lt-leb (10 * n + valueOf (getD v i 0)) largest (omega arith)) at (rw (next v i h) at (r .rest))
 
-  -- a word at the front
-  module _ (w : List ℕ) {whole : Bool} (inv : begins (drop i w) (drop i s) ≡ whole) where
-    pub begins-more : i < length w → i < length s → getD s i 0 ≡ getD w i 0 → begins (drop (i + 1) w) (drop (i + 1) s) ≡ whole
+-- ---- a word at the front: the first i bytes are its own
+pub record Matching (w s : List ℕ) (i : ℕ) : Type 0 where
+  pub low : i ≤ length w
+  pub long : length w ≤ length s
+  pub rest : begins (drop i w) (drop i s) ≡ begins w s
+
+module _ (w s : List ℕ) where
+  pub match-begin : length w ≤ length s → Matching w s 0
+  match-begin h = record { low = omega arith; long = h; rest = refl }
+
+  module _ (i : ℕ) (r : Matching w s i) where
+    pub match-more : i < length w → getD s i 0 ≡ getD w i 0 → Matching w s (i + 1)
     unfolding begins
-    begins-more g h e =
-        let k : drop i w ≡ getD w i 0 ∷ drop (i + 1) w = rw (add-one, drop-cons w i 0) in
-        rw (eq-eqb (getD s i 0) (getD w i 0) e) at (rw (next h, k) at inv)
+    match-more g e =
+        record {
+          low = omega arith;
+          long = r .long;
+          rest = rw (eq-eqb (getD s i 0) (getD w i 0) e) at (rw (next s i (omega arith), next w i g) at (r .rest));
+        }
 
-    pub begins-not : i < length w → i < length s → (getD s i 0 ≡ getD w i 0 → ⊥) → false ≡ whole
+    pub match-not : i < length w → (getD s i 0 ≡ getD w i 0 → ⊥) → false ≡ begins w s
     unfolding begins
-    begins-not g h e =
-        let k : drop i w ≡ getD w i 0 ∷ drop (i + 1) w = rw (add-one, drop-cons w i 0) in
-        rw (ne-eqb (getD s i 0) (getD w i 0) e) at (rw (next h, k) at inv)
+    match-not g e = rw (ne-eqb (getD s i 0) (getD w i 0) e) at (rw (next s i (omega arith), next w i g) at (r .rest))
 
-    pub begins-end : length w ≤ i → true ≡ whole
+    pub match-end : length w ≤ i → true ≡ begins w s
     unfolding begins
-    begins-end h = rw (drop-of-length-le w h) at inv
+    match-end h = rw (drop-of-length-le w h) at (r .rest)
 
-pub begins-short : (w s : List ℕ) → length s < length w → begins w s ≡ false
+pub match-short : (w s : List ℕ) → length s < length w → false ≡ begins w s
 unfolding begins
-begins-short [] s h = absurd (omega arith)
-begins-short (w ∷ ws) [] h = refl
-begins-short (w ∷ ws) (b ∷ s) h = go (begins-short ws s (omega arith))
-  where
-    go : begins ws s ≡ false → both (eqb b w) (begins ws s) ≡ false
-    go e = rw e (both-false (eqb b w))
+match-short [] s h = absurd (omega arith)
+match-short (w ∷ ws) [] h = refl
+match-short (w ∷ ws) (b ∷ s) h = rw (← match-short ws s (omega arith), both-false (eqb b w))
 
 -- a number's first byte
 pub number-empty : (s : List ℕ) → length s ≡ 0 → NoNumber ≡ numberOf s
@@ -113,3 +155,6 @@ pub number-plain : (s : List ℕ) → (length s ≡ 0 → ⊥) → (getD s 0 0 �
 unfolding numberOf
 number-plain [] g h = absurd (g refl)
 number-plain (b ∷ s) g h = rw (ne-eqb b 48 h)
+
+pub ruleset turns =
+    (hexes-odd, hexes-begin, hexes-end, hexes-more, hexes-not, end-begin, end-more, end-found, end-none, digits-begin, digits-end, digits-more, digits-not, digits-large, match-short, match-begin, match-more, match-not, match-end, needs)
