@@ -1,10 +1,11 @@
 -- Pairs of hex digits. Assumes nothing.
-use mathlib.Core.Bool.{true, false}
+use mathlib.Core.Bool.{Bool, true, false}
 use mathlib.Core.List.{List, [], _∷_}
-use mathlib.Core.Path.{_≡_, refl, _∙_}
+use mathlib.Core.Path.{_≡_, refl, sym, _∙_}
 use Prim.Native.Nat.{ℕ, zero, suc, _+_, _-_, _*_, _/_, _%_, _≤_, _<_}
 use native.Mathlib.Omega.{arith}
-use borrow.Author.Tests.{eqb-true, eq-eqb, ltb-true, lt-ltb, le-leb, lt-leb}
+use borrow.Author.Needs.{needs}
+use borrow.Author.Tests.{not-true, not-false, eqb-true, eq-eqb, ltb-true, lt-ltb, le-leb, lt-leb}
 use lib.Dec.{eqb, ltb→lt}
 use lib.ListN.{length, getD, take, drop, length-drop}
 use lib.Seq.{sets, length-take-le}
@@ -19,9 +20,9 @@ pub hex-even : (v : List ℕ) → hexText v ≡ true → length v % 2 ≡ 0
 unfolding hexText
 hex-even v e = eqb-true (length v % 2) 0 (both-first (eqb (length v % 2) 0) (all hexDigit v) e)
 
-pub hex-low : (v : List ℕ) (i : ℕ) → hexText v ≡ true → i < length v → valueOf (getD v i 0) < 16
+pub value-low : (v : List ℕ) (i : ℕ) → hexText v ≡ true → i < length v → valueOf (getD v i 0) < 16
 unfolding hexText
-hex-low v i e h =
+value-low v i e h =
     ltb→lt (valueOf (getD v i 0)) 16 (all-at hexDigit 0 v (true-T _ (both-second (eqb (length v % 2) 0) (all hexDigit v) e)) i h)
 
 pub unhex-length : (v : List ℕ) → length v % 2 ≡ 0 → 2 * length (unhex v) ≡ length v
@@ -107,13 +108,22 @@ hex-plain (b ∷ f) h =
     let l = h 0 (omega arith) in
     rw (plain-glyph (b / 16) (omega arith), plain-glyph (b % 16) (omega arith)) (hex-plain f (bytes-tail b f h))
 
--- ---- bytes at the front of a buffer
-module _ (v out : List ℕ) where
-  pub unhexed-no : hexText v ≡ false → out ≡ unhexed v out
-  unhexed-no h = rw h
+-- ---- bytes at the front of a buffer, by the answer b of the test for hex digits
+module _ (v out : List ℕ) (b : Bool) (e : b ≡ hexText v) where
+  pub unhexed-no : b ≡ false → out ≡ unhexed v out
+  unhexed-no f = rw (sym e ∙ f)
 
-  pub unhexed-long : hexText v ≡ true → length out < length v / 2 → out ≡ unhexed v out
-  unhexed-long h l = rw (h, lt-leb _ _ l)
+  module _ (t : b ≡ true) where
+    pub unhexed-hex : hexText v ≡ true
+    unhexed-hex = sym e ∙ t
 
-  pub unhexed-is : {out′ : List ℕ} → hexText v ≡ true → length v / 2 ≤ length out → out′ ≡ sets out 0 (unhex v) → out′ ≡ unhexed v out
-  unhexed-is h l e = e ∙ rw (h, le-leb _ _ l)
+    pub unhexed-fits : length v / 2 ≤ length out → length v ≤ 2 * length out
+    unhexed-fits l = omega (arith, hex-even v unhexed-hex)
+
+    pub unhexed-long : length out < length v / 2 → out ≡ unhexed v out
+    unhexed-long l = rw (unhexed-hex, lt-leb _ _ l)
+
+    pub unhexed-is : (out′ : List ℕ) → length v / 2 ≤ length out → out′ ≡ sets out 0 (unhex v) → out′ ≡ unhexed v out
+    unhexed-is out′ l g = g ∙ rw (unhexed-hex, le-leb _ _ l)
+
+pub ruleset unhexes = (unhexed-no, unhexed-hex, unhexed-fits, unhexed-long, unhexed-is, not-true, not-false, needs)

@@ -10,9 +10,8 @@ use borrow.Author.Tests.{lt-ltb, le-ltb, le-leb, lt-leb, eq-eqb, ne-eqb}
 use lib.Dec.{eqb}
 use lib.ListN.{length, getD, drop, drop-of-length-le}
 use lib.Seq.{drop-cons}
-use Rattle.maths.specs.Tests.{both, all}
+use Rattle.maths.specs.Tests.{all}
 use Rattle.maths.proofs.Tests.{both-false}
-use Rattle.sheet_text.specs.declared.values.Number.{Number}
 use Rattle.sheet_text.specs.declared.values.Number.the-variants.{Is, NoNumber}
 use Rattle.sheet_text.specs.Text.{newline, largest}
 use Rattle.sheet_text.specs.Reading.{valueOf, numberFrom, numberOf, begins, hexDigit, hexText, lineEnd}

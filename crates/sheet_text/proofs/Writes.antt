@@ -1,20 +1,23 @@
 -- Texts that are written from a place on, and the loops that write them. Assumes nothing.
-use mathlib.Core.Bool.{Bool, true, false}
+use mathlib.Core.Bool.{true}
 use mathlib.Core.List.{List, [], _∷_, _++_}
 use mathlib.Core.Path.{_≡_, refl, sym, _∙_}
-use Prim.Native.Nat.{ℕ, suc, _+_, _-_, _*_, _/_, _%_, _^_, _≤_, _<_}
-use native.Mathlib.Nat.{zero-add}
+use Prim.Native.Nat.{ℕ, suc, _+_, _-_, _*_, _/_, _%_, _≤_, _<_}
+use native.Mathlib.Nat.{zero-add, add-zero}
 use native.Mathlib.Numerals.{add-one}
 use native.Mathlib.Omega.{arith}
-use lib.ListN.{length, getD, set, drop, replicate, length-append, drop-of-length-le}
+use borrow.Author.Needs.{needs}
+use lib.ListN.{length, getD, set, drop, replicate, length-append, length-set, drop-of-length-le}
 use lib.Seq.{sets}
+use mir.Syntax.{w8, w64}
+use mir.Val.{Fits}
 use Rattle.maths.proofs.Stores.{sets-append, sets-replicate}
-use Rattle.report.specs.Report.{flag}
 use Rattle.sheet_text.specs.declared.print.Answer.{Answer}
 use Rattle.sheet_text.specs.Text.{newline, glyph, decimal, hex, line}
-use Rattle.sheet_text.specs.Reading.{valueOf, unhex}
+use Rattle.sheet_text.specs.Reading.{valueOf, hexText, unhex}
 use Rattle.sheet_text.specs.Printing.{room, answerOf, Written}
 use Rattle.sheet_text.proofs.Turns.{next}
+use Rattle.sheet_text.proofs.Hex.{hex-even, value-low, hex-length}
 use Rattle.sheet_text.proofs.Decimals.{decimal-few}
 
 -- ---- one text after another
@@ -25,58 +28,133 @@ written-then {old} {a = a} {b = b} {at = at} {t = t} p q =
 pub written-byte : (l : List ℕ) (at b : ℕ) → Written l at (b ∷ []) (set l at b) (at + 1)
 written-byte l at b = record { is = refl; count = refl }
 
--- ---- loops: what is left is written over the present bytes
-module _ (l w : List ℕ) (p i : ℕ) {whole : List ℕ} (inv : sets l p (drop i w) ≡ whole) where
-  pub word-more : {p′ : ℕ} → i < length w → p′ ≡ suc p → sets (set l p (getD w i 0)) p′ (drop (i + 1) w) ≡ whole
-  word-more h e = rw e (rw (next w i h) at inv)
+-- ---- loops: what is left to be written over the present list gives the whole
+-- a word from a place on, so far i bytes of it
+pub record Wording (l₀ w : List ℕ) (at i : ℕ) (l : List ℕ) : Type 0 where
+  pub low : i ≤ length w
+  pub rest : sets l (at + i) (drop i w) ≡ sets l₀ at w
 
-  pub word-end : length w ≤ i → l ≡ whole
-  word-end h = rw (drop-of-length-le w h) at inv
+module _ (l₀ w : List ℕ) (at : ℕ) where
+  pub word-begins : Wording l₀ w at 0 l₀
+  word-begins = record { low = omega arith; rest = rw (add-zero at) }
 
-module _ (l s : List ℕ) (p i : ℕ) {whole : List ℕ} (inv : sets l p (hex (drop i s)) ≡ whole) where
-  pub hex-more : {q p′ : ℕ} → i < length s → q ≡ suc p → p′ ≡ suc (suc p)
-      → sets (set (set l p (glyph (getD s i 0 / 16))) q (glyph (getD s i 0 % 16))) p′ (hex (drop (i + 1) s)) ≡ whole
-  unfolding hex
-  hex-more h d e = rw (d, e) (rw (next s i h) at inv)
+  module _ (i : ℕ) (l : List ℕ) (r : Wording l₀ w at i l) where
+    pub word-more : i < length w → Wording l₀ w at (i + 1) (set l (at + i) (getD w i 0))
+    word-more h =
+        let e : at + (i + 1) ≡ suc (at + i) = omega arith in
+        record { low = omega arith; rest = rw e (rw (next w i h) at (r .rest)) }
 
-  pub hex-end : length s ≤ i → l ≡ whole
-  unfolding hex
-  hex-end h = rw (drop-of-length-le s h) at inv
+    pub word-ends : length w ≤ i → Written l₀ at w l (at + length w)
+    word-ends h = record { is = rw (drop-of-length-le w h) at (r .rest); count = refl }
+
+-- the hex digits of bytes from a place on, so far those of i bytes
+pub record Hexing (l₀ s : List ℕ) (at i : ℕ) (l : List ℕ) : Type 0 where
+  pub low : i ≤ length s
+  pub rest : sets l (at + 2 * i) (hex (drop i s)) ≡ sets l₀ at (hex s)
+
+module _ (l₀ s : List ℕ) (at : ℕ) where
+  pub hex-begins : Hexing l₀ s at 0 l₀
+  hex-begins = record { low = omega arith; rest = rw (add-zero at) }
+
+  module _ (i : ℕ) (l : List ℕ) (r : Hexing l₀ s at i l) where
+    pub hex-more : (a b : ℕ) → a ≡ glyph (getD s i 0 / 16) → b ≡ glyph (getD s i 0 % 16) → i < length s
+        → Hexing l₀ s at (i + 1) (set (set l (at + 2 * i) a) (at + 2 * i + 1) b)
+    unfolding hex
+    hex-more a b e f h =
+        let p : at + 2 * i + 1 ≡ suc (at + 2 * i) = omega arith in
+        let q : at + 2 * (i + 1) ≡ suc (suc (at + 2 * i)) = omega arith in
+        record { low = omega arith; rest = rw (e, f, p, q) (rw (next s i h) at (r .rest)) }
+
+    pub hex-ends : length s ≤ i → Written l₀ at (hex s) l (at + 2 * length s)
+    unfolding hex
+    hex-ends h = record { is = rw (drop-of-length-le s h) at (r .rest); count = rw (hex-length s) }
+
+-- the bytes that pairs of hex digits say, so far j of them
+pub record Unhexing (v l₀ : List ℕ) (j : ℕ) (l : List ℕ) : Type 0 where
+  pub low : j ≤ length v / 2
+  pub long : length l ≡ length l₀
+  pub rest : sets l j (unhex (drop (2 * j) v)) ≡ sets l₀ 0 (unhex v)
 
 pair : (s : List ℕ) (j : ℕ) → 2 * j + 1 < length s → drop (2 * j) s ≡ getD s (2 * j) 0 ∷ getD s (2 * j + 1) 0 ∷ drop (2 * (j + 1)) s
 pair s j h =
     let e : 2 * j + 1 + 1 ≡ 2 * (j + 1) = omega arith in
     next s (2 * j) (omega arith) ∙ rw (next s (2 * j + 1) h, e)
 
-module _ (l s : List ℕ) (j : ℕ) {whole : List ℕ} (inv : sets l j (unhex (drop (2 * j) s)) ≡ whole) where
-  pub unhex-more : 2 * j + 1 < length s
-      → sets (set l j (16 * valueOf (getD s (2 * j) 0) + valueOf (getD s (2 * j + 1) 0))) (j + 1) (unhex (drop (2 * (j + 1)) s)) ≡ whole
-  unfolding unhex
-  unhex-more h = rw (add-one j) (rw (pair s j h, add-one j) at inv)
+module _ (v l₀ : List ℕ) where
+  pub unhex-begins : Unhexing v l₀ 0 l₀
+  unhex-begins = record { low = omega arith; long = refl; rest = refl }
 
-  pub unhex-end : length s ≤ 2 * j → l ≡ whole
-  unfolding unhex
-  unhex-end h = rw (drop-of-length-le s h) at inv
+  module _ (j : ℕ) (l : List ℕ) (r : Unhexing v l₀ j l) where
+    pub unhex-more : (a b : ℕ) → a ≡ valueOf (getD v (2 * j) 0) → b ≡ valueOf (getD v (2 * j + 1) 0) → j < length v / 2
+        → Unhexing v l₀ (j + 1) (set l j (16 * a + b))
+    unfolding unhex
+    unhex-more a b e f h =
+        record {
+          low = omega arith;
+          long = length-set l j (16 * a + b) ∙ r .long;
+          rest = rw (e, f, add-one j) (rw (pair v j (omega arith), add-one j) at (r .rest));
+        }
 
--- ---- the answer's text
+    pub unhex-inside : j < length v / 2 → length v ≤ 2 * length l₀ → j < length l
+    unhex-inside h g = omega (arith, r .long)
+
+    pub unhex-long : length l ≡ length l₀
+    unhex-long = r .long
+
+    pub unhex-ends : length v / 2 ≤ j → hexText v ≡ true → l ≡ sets l₀ 0 (unhex v)
+    unfolding unhex
+    unhex-ends h t =
+        let g : length v ≤ 2 * j = omega (arith, hex-even v t) in
+        rw (drop-of-length-le v g) at (r .rest)
+
+-- two digits are a byte
+module _ (v : List ℕ) (j a b : ℕ) (e : a ≡ valueOf (getD v (2 * j) 0)) (f : b ≡ valueOf (getD v (2 * j + 1) 0)) (t : hexText v ≡ true) (h : j < length v / 2) where
+  pub pair-byte : Fits w8 (16 * a + b)
+  pair-byte = record { fits = omega (arith, value-low v (2 * j) t (omega arith), value-low v (2 * j + 1) t (omega arith)) }
+
+  pub pair-sum : Fits w64 (16 * a + b)
+  pair-sum = record { fits = omega (arith, pair-byte .fits) }
+
+  pub pair-product : Fits w64 (16 * a)
+  pair-product = record { fits = omega (arith, pair-byte .fits) }
+
+pub ruleset writes =
+    (word-begins, word-more, word-ends, hex-begins, hex-more, hex-ends, unhex-begins, unhex-more, unhex-inside, unhex-long, unhex-ends, pair-byte, pair-sum, pair-product, needs)
+
+-- ---- a line of a number: there is room for its key, for its digits and for its newline
 pub line-length : (key : List ℕ) (n : ℕ) → length (line key (decimal n)) ≡ length key + length (decimal n) + 1
 line-length key n = length-append (key ++ decimal n) (newline ∷ []) ∙ rw (length-append key (decimal n))
 
-pub number-low : (key : List ℕ) (n : ℕ) → n < 2 ^ 64 → length (line key (decimal n)) ≤ length key + 21
-number-low key n h = omega (arith, line-length key n, decimal-few 19 n (omega arith))
+module _ (key b₀ b₁ : List ℕ) (n at t : ℕ) (p : Written b₀ at key b₁ t) (fits : Fits w64 n) where
+  few : length (decimal n) ≤ 20
+  few = decimal-few 19 n (omega (arith, fits .fits))
 
-pub number-fits : (key : List ℕ) (n at : ℕ) → n < 2 ^ 64 → at + length key ≤ 2699 → at + length (line key (decimal n)) ≤ room
-number-fits key n at h l = omega (arith, number-low key n h)
+  pub digits-room : at + length key + 21 ≤ room → t + length (decimal n) ≤ room
+  digits-room h = omega (arith, p .count, few)
 
-pub flag-low : (b : Bool) → flag b < 2 ^ 64
-flag-low true = omega arith
-flag-low false = omega arith
+  module _ (b₂ : List ℕ) (u : ℕ) (q : Written b₁ t (decimal n) b₂ u) where
+    pub newline-room : at + length key + 21 ≤ room → u + 1 ≤ room
+    newline-room h = omega (arith, p .count, q .count, few)
 
--- zeros that a text was written over
-pub answered : (text : List ℕ) {new : List ℕ} {n : ℕ} → n ≤ room → Written (replicate room 0) 0 text new n → record { len = n; bytes = new } ≡ answerOf text
-answered text h p =
-    let e = p .is ∙ sets-replicate text room 0 (omega (arith, p .count)) in
-    rw (e, p .count, zero-add (length text))
+    pub line-low : (b₃ : List ℕ) (v : ℕ) → Written b₂ u (newline ∷ []) b₃ v → v ≤ at + length key + 21
+    line-low b₃ v r = omega (arith, p .count, q .count, r .count, few)
+
+-- ---- a line of hex digits
+module _ (key s b₀ b₁ b₂ : List ℕ) (at t u : ℕ) (q : Written b₁ t (hex s) b₂ u) (p : Written b₀ at key b₁ t) (h : at + length key + 2 * length s + 1 ≤ room) where
+  pub hex-room : u + 1 ≤ room
+  hex-room = omega (arith, p .count, q .count, hex-length s)
+
+  pub hex-low : (b₃ : List ℕ) (v : ℕ) → Written b₂ u (newline ∷ []) b₃ v → v ≤ room
+  hex-low b₃ v r = omega (arith, hex-room, r .count)
+
+-- ---- the answer: a text that was written over zeros
+pub answered : (a b b₁ b₂ : List ℕ) (t n : ℕ) → Written b₁ t b b₂ n → Written (replicate room 0) 0 a b₁ t → n ≤ room → record { len = n; bytes = b₂ } ≡ answerOf (a ++ b)
+answered a b b₁ b₂ t n q p h =
+    let r = written-then p q in
+    let e = r .is ∙ sets-replicate (a ++ b) room 0 (omega (arith, r .count)) in
+    rw (e, r .count, zero-add (length (a ++ b)))
+
+pub ruleset rooms = (digits-room, newline-room, line-low, hex-room, hex-low, answered, written-then, needs)
 
 -- the text of an answer lies within its bytes
 pub answer-fits : {a : Answer} (text : List ℕ) → a ≡ answerOf text → a .len ≤ length (a .bytes)

@@ -10,12 +10,14 @@ use Rattle.sheet_text.specs.declared.print.Answer.{Answer}
 use Rattle.sheet_text.specs.Text.{ascii, decimal, hex, line}
 
 -- answer, success, iters, output: "each line ends with one newline"
-abbrev pub printed : ℕ → Bool → ℕ → List ℕ → List ℕ
-printed answer success iters output =
+abbrev pub head : ℕ → Bool → ℕ → List ℕ
+head answer success iters =
     line (ascii "answer=") (decimal answer)
     ++ line (ascii "success=") (decimal (flag success))
     ++ line (ascii "iters=") (decimal iters)
-    ++ line (ascii "output=") (hex output)
+
+abbrev pub printed : ℕ → Bool → ℕ → List ℕ → List ℕ
+printed answer success iters output = head answer success iters ++ line (ascii "output=") (hex output)
 
 -- the most output bytes that are printed, and the bytes that an answer has
 abbrev pub most : ℕ

@@ -3,7 +3,7 @@ ghost use mathlib.Core.Path.{_≡_};
 ghost use Prim.Native.Nat.{_+_, _*_, _<_, _≤_};
 ghost use lib.ListN.{length, take};
 ghost use Rattle.sheet_text.specs.Text.{glyph, decimal, hex, line};
-ghost use Rattle.sheet_text.specs.Printing.{printed, most, room, answerOf, Written};
+ghost use Rattle.sheet_text.specs.Printing.{head, printed, most, room, answerOf, Written};
 
 // The most output bytes that are printed: no output of the library is longer.
 const MOST: usize = 1280;
@@ -59,13 +59,31 @@ fn put_hex(bytes: &mut [u8; ROOM], at: usize, s: &[u8]) -> usize
     at + 2 * s.len()
 }
 
+// A number has at most 20 digits.
 fn number_line(bytes: &mut [u8; ROOM], at: usize, key: &[u8], n: usize) -> usize
-    requires { ⌜ at + length (line (now key) (decimal n)) ≤ room ⌝ }
-    ensures { λ r. ⌜ Written (now (bytes .entry)) at (line (now (key .entry)) (decimal n)) (now (bytes .exit)) r ⌝ }
+    requires { ⌜ at + length (now key) + 21 ≤ room ⌝ }
+    ensures { λ r. ⌜ (Written (now (bytes .entry)) at (line (now (key .entry)) (decimal n)) (now (bytes .exit)) r) × (r ≤ at + length (now (key .entry)) + 21) ⌝ }
 {
     let t = put_word(bytes, at, key);
     let u = put_decimal(bytes, t, n);
     put_word(bytes, u, b"\n")
+}
+
+fn hex_line(bytes: &mut [u8; ROOM], at: usize, key: &[u8], s: &[u8]) -> usize
+    requires { ⌜ at + length (now key) + 2 * length (now s) + 1 ≤ room ⌝ }
+    ensures { λ r. ⌜ (Written (now (bytes .entry)) at (line (now (key .entry)) (hex (now (s .entry)))) (now (bytes .exit)) r) × (r ≤ room) ⌝ }
+{
+    let t = put_word(bytes, at, key);
+    let u = put_hex(bytes, t, s);
+    put_word(bytes, u, b"\n")
+}
+
+fn put_head(bytes: &mut [u8; ROOM], answer: u8, success: bool, iters: usize) -> usize
+    ensures { λ r. ⌜ (Written (now (bytes .entry)) 0 (head answer success iters) (now (bytes .exit)) r) × (r ≤ 84) ⌝ }
+{
+    let t = number_line(bytes, 0, b"answer=", answer as usize);
+    let u = number_line(bytes, t, b"success=", success as usize);
+    number_line(bytes, u, b"iters=", iters)
 }
 
 fn print_all(answer: u8, success: bool, iters: usize, output: &[u8]) -> Answer
@@ -73,12 +91,8 @@ fn print_all(answer: u8, success: bool, iters: usize, output: &[u8]) -> Answer
     ensures { λ r. ⌜ r ≡ answerOf (printed answer success iters (now (output .entry))) ⌝ }
 {
     let mut bytes = [0u8; ROOM];
-    let t = number_line(&mut bytes, 0, b"answer=", answer as usize);
-    let u = number_line(&mut bytes, t, b"success=", success as usize);
-    let v = number_line(&mut bytes, u, b"iters=", iters);
-    let w = put_word(&mut bytes, v, b"output=");
-    let x = put_hex(&mut bytes, w, output);
-    let len = put_word(&mut bytes, x, b"\n");
+    let t = put_head(&mut bytes, answer, success, iters);
+    let len = hex_line(&mut bytes, t, b"output=", output);
     Answer { len, bytes }
 }
 

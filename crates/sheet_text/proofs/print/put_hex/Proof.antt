@@ -1,19 +1,13 @@
-use mathlib.Core.Path.{_≡_}
-use Prim.Native.Nat.{_+_, _-_, _*_, _≤_}
-use native.Mathlib.Nat.{add-zero}
+use Prim.Native.Nat.{_-_}
 use native.Mathlib.Omega.{arith}
-use denote.Ref.{now}
-use lib.ListN.{length, drop}
-use lib.Seq.{sets}
-use Rattle.sheet_text.specs.Text.{hex}
-use Rattle.sheet_text.proofs.Hex.{hex-length}
-use Rattle.sheet_text.proofs.Writes.{hex-more, hex-end}
-use borrow.Author.Needs.{needs}
+use lib.ListN.{length}
+use Rattle.sheet_text.proofs.Writes.{Hexing, writes}
 use Rattle.sheet_text.proofs.print.put_hex.Statement.{statement}
 use Rattle.sheet_text.proofs.print.put_hex.Tie as tie
 
+-- the digits of the first i bytes are written
 abbrev Inv-loop : tie.InvT-loop
-Inv-loop bytes₀ at s i₀ i-end bytes i = (i ≤ length s) × (sets bytes (at + 2 * i) (hex (drop i s)) ≡ sets bytes₀ at (hex s))
+Inv-loop bytes₀ at s i₀ i-end bytes i = Hexing bytes₀ s at i bytes
 
 abbrev μ-loop : tie.MeasureT-loop
 μ-loop bytes₀ at s i₀ i-end bytes i = length s - i
@@ -24,29 +18,20 @@ put-hex-spec =
     (tie.spec
     Inv-loop
     μ-loop
-    (λ c. (omega arith, rw (add-zero (c .before .args .at))))
-    (λ c. search needs)
+    (λ c. search writes)
+    (λ c. search writes)
     (λ c κs. omega (arith, c .shared-slice-known2 .given (c .before .before .loop .i)))
-    (λ c. omega arith)
-    (λ c. omega arith)
-    (λ c. omega arith)
-    (λ c κs. omega arith)
-    (λ c. omega arith)
-    (λ c. omega arith)
-    (λ c. omega arith)
-    (λ c. omega arith)
-    (λ c. search needs)
-    (λ c. omega arith)
-    (λ c.
-    let d = c .before in
-    let l = d .before .before .before in
-    let a = l .before .before .args in (
-      omega arith,
-      rw (c .glyph-of2 .ensures, d .glyph-of .ensures)
-          (hex-more _ (now (a .s)) (a .at + 2 * l .loop .i) (l .loop .i) (l .loop .inv .1) (d .before .before .loop-test .taken) (omega arith) (omega arith)),
-    ))
-    (λ c. omega arith)
-    (λ c. omega arith)
-    (λ c.
-    let a = c .before .before .before .args in
-    record { is = hex-end _ _ _ _ (c .before .loop .inv .1) (c .loop-test .left); count = omega (arith, hex-length (now (a .s))) }))
+    (λ c. search writes)
+    (λ c. search writes)
+    (λ c. search writes)
+    (λ c κs. search writes)
+    (λ c. search writes)
+    (λ c. search writes)
+    (λ c. search writes)
+    (λ c. search writes)
+    (λ c. search writes)
+    (λ c. search writes)
+    (λ c. search writes)
+    (λ c. search writes)
+    (λ c. search writes)
+    (λ c. search writes))
