@@ -1,60 +1,63 @@
 -- What the operations print, by what the library's calls left. Assumes nothing.
 use mathlib.Core.Bool.{true}
-use mathlib.Core.List.{List}
+use mathlib.Core.List.{List, []}
 use mathlib.Core.Path.{_≡_, ap, _∙_}
-use Prim.Native.Nat.{ℕ}
+use Prim.Native.Nat.{ℕ, _≤_}
+use borrow.Author.Needs.{needs}
 use borrow.Author.Tests.{eq-eqb, ne-eqb}
 use lib.IntN.{ℤ, pos, negsuc}
-use lib.ListN.{take, replicate}
-use Rattle.codes.specs.declared.CodeParams.{CodeParams}
-use Rattle.codes.specs.Codes.{rowOf, maxBytes, maxSent, maxSigns, maxSoftWorking}
+use lib.ListN.{length, take}
+use lib.Seq.{take-all}
 use Rattle.report.specs.declared.Report.{Report}
 use Rattle.report.specs.Report.{refusal, ending}
-use Rattle.encoder.specs.Outcomes.{Encoded, encoded}
+use Rattle.encoder.specs.Outcomes.{Encoded, encoded, copyEncodeOutcome}
+use Rattle.bit_flip.specs.Outcome as flip
 use Rattle.min_sum.specs.Confidence.{i8}
-use Rattle.min_sum.specs.Outcomes.{left, Written, written, toLlrsOutcome, decodeOutcome}
-use Rattle.sheet.specs.Sheet.{reported, encodeReport, encodedText, softText, softFrom, msSheet}
-use Rattle.maths.proofs.Slices.{replicate-front}
-use Rattle.sheet.proofs.Rooms.{llrs-room, output-room, soft-room, signs-room}
+use Rattle.min_sum.specs.Outcomes.{Outcome, left, Written, written, toLlrsOutcome, decodeOutcome}
+use Rattle.sheet_text.specs.declared.print.Answer.{Answer}
+use Rattle.sheet_text.specs.Printing.{printed, most, answerOf}
+use Rattle.sheet.specs.Sheet.{reported, encodeReport, encodedText, flippedText, softText, softFrom}
 
-module _ {answer : ℕ} {codeword : List ℕ} {x : Encoded} (e : encoded answer codeword ≡ x) {r : Report} where
-  pub encode-refused : (answer ≡ 0 → ⊥) → r ≡ refusal answer → reported r codeword ≡ encodedText x
-  encode-refused h f =
-      let s : refusal answer ≡ encodeReport answer = rw (ne-eqb answer 0 h) in
-      ap (λ (r : Report). reported r codeword) (f ∙ s) ∙ ap encodedText e
+-- the report r is printed as the answer a
+module _ (r : Report) (output : List ℕ) (a : Answer) where
+  pub report-refused : (r .answer ≡ 0 → ⊥) → a ≡ answerOf (printed (r .answer) (r .success) (r .iters) []) → a ≡ answerOf (reported r output)
+  report-refused h e = rw (ne-eqb (r .answer) 0 h) e
 
-  pub encode-accepted : answer ≡ 0 → r ≡ ending true 0 → reported r codeword ≡ encodedText x
-  encode-accepted h f =
-      let s : ending true 0 ≡ encodeReport answer = rw (eq-eqb answer 0 h) in
-      ap (λ (r : Report). reported r codeword) (f ∙ s) ∙ ap encodedText e
+  pub report-accepted : r .answer ≡ 0 → length output ≤ most → a ≡ answerOf (printed (r .answer) (r .success) (r .iters) (take most output)) → a ≡ answerOf (reported r output)
+  report-accepted h l e = e ∙ rw (take-all most output l, eq-eqb (r .answer) 0 h)
 
-module _ (code maxiters : ℕ) (output : List ℕ) (working : List ℤ) (signs : List ℕ) {answer : ℕ} {llrs : List ℤ} {x : Written ℤ} (e : written answer llrs ≡ x) where
-  begun : softFrom code maxiters (written answer llrs) output working signs ≡ softFrom code maxiters x output working signs
-  begun = ap (λ (l : Written ℤ). softFrom code maxiters l output working signs) e
+  -- the encoder
+  module _ (code : ℕ) (frame codeword : List ℕ) (answer : ℕ) (e : encoded answer output ≡ copyEncodeOutcome code frame codeword) (p : a ≡ answerOf (reported r output)) where
+    by-report : r ≡ encodeReport answer → a ≡ answerOf (encodedText (copyEncodeOutcome code frame codeword))
+    by-report f = p ∙ ap (λ (r : Report). answerOf (reported r output)) f ∙ ap (λ (x : Encoded). answerOf (encodedText x)) e
 
-  pub soft-refused : {r : Report} → (answer ≡ 0 → ⊥) → r ≡ refusal answer → reported r output ≡ softFrom code maxiters x output working signs
-  soft-refused h f =
-      let s : reported (refusal answer) output ≡ softFrom code maxiters (written answer llrs) output working signs = rw (ne-eqb answer 0 h) in
-      ap (λ (r : Report). reported r output) f ∙ s ∙ begun
+    pub encode-refused : r ≡ refusal answer → (answer ≡ 0 → ⊥) → a ≡ answerOf (encodedText (copyEncodeOutcome code frame codeword))
+    encode-refused f h = by-report (f ∙ rw (ne-eqb answer 0 h))
 
-  pub soft-accepted : {r : Report} {o signs′ : List ℕ} {w : List ℤ} → answer ≡ 0 → left r o w signs′ ≡ decodeOutcome i8 code llrs output working signs maxiters
-      → reported r o ≡ softFrom code maxiters x output working signs
-  soft-accepted h f =
-      let s : softText (decodeOutcome i8 code llrs output working signs maxiters) ≡ softFrom code maxiters (written answer llrs) output working signs =
-      rw (eq-eqb answer 0 h) in
-      ap softText f ∙ s ∙ begun
+    pub encode-accepted : r ≡ ending true 0 → answer ≡ 0 → a ≡ answerOf (encodedText (copyEncodeOutcome code frame codeword))
+    encode-accepted f h = by-report (f ∙ rw (eq-eqb answer 0 h))
 
--- min-sum with the fronts of its buffers, which the row of the code cuts
-soft-over : (code maxiters : ℕ) (frame : List ℕ) {l w : List ℤ} {o s : List ℕ} → l ≡ replicate (rowOf code .n) (pos 0) → o ≡ replicate (rowOf code .«output_len») 0
-    → w ≡ replicate (rowOf code .«decode_ms_working_len») (pos 0) → s ≡ replicate (rowOf code .«decode_ms_working_u8_len») 0
-    → softFrom code maxiters (toLlrsOutcome (negsuc 0) (pos 1) code frame l) o w s ≡ msSheet code maxiters frame
-soft-over code maxiters frame e f g h = rw (e, f, g, h)
+  -- bit flipping
+  pub flip-reported : (code maxiters : ℕ) (frame output₀ working₀ working : List ℕ) → flip.left r output working ≡ flip.outcome code frame output₀ working₀ maxiters
+      → a ≡ answerOf (reported r output) → a ≡ answerOf (flippedText (flip.outcome code frame output₀ working₀ maxiters))
+  flip-reported code maxiters frame output₀ working₀ working e p = p ∙ ap (λ (x : flip.Outcome). answerOf (flippedText x)) e
 
-pub soft-lent : (code maxiters : ℕ) (frame : List ℕ) {row : CodeParams} → row ≡ rowOf code
-    → softFrom code maxiters (toLlrsOutcome (negsuc 0) (pos 1) code frame (take (row .n) (replicate maxSent (pos 0)))) (take (row .«output_len») (replicate maxBytes 0))
-    (take (row .«decode_ms_working_len») (replicate maxSoftWorking (pos 0))) (take (row .«decode_ms_working_u8_len») (replicate maxSigns 0))
-    ≡ msSheet code maxiters frame
-soft-lent code maxiters frame e =
-    rw e
-    (soft-over code maxiters frame (replicate-front maxSent (pos 0) _ (llrs-room code)) (replicate-front maxBytes 0 _ (output-room code)) (replicate-front maxSoftWorking (pos 0) _ (soft-room code))
-    (replicate-front maxSigns 0 _ (signs-room code)))
+  -- min-sum, where the frame's confidences were made and where they were not
+  module _ (code maxiters : ℕ) (frame output₀ : List ℕ) (llrs₀ llrs working₀ : List ℤ) (signs₀ : List ℕ) (answer : ℕ)
+      (e : written answer llrs ≡ toLlrsOutcome (negsuc 0) (pos 1) code frame llrs₀) (p : a ≡ answerOf (reported r output)) where
+    abbrev from : Written ℤ → Answer
+    from l = answerOf (softFrom code maxiters l output₀ working₀ signs₀)
+
+    pub soft-refused : r ≡ refusal answer → (answer ≡ 0 → ⊥)
+        → a ≡ answerOf (softFrom code maxiters (toLlrsOutcome (negsuc 0) (pos 1) code frame llrs₀) output₀ working₀ signs₀)
+    soft-refused f h =
+        let s : answerOf (reported (refusal answer) output) ≡ from (written answer llrs) = rw (ne-eqb answer 0 h) in
+        p ∙ ap (λ (r : Report). answerOf (reported r output)) f ∙ s ∙ ap from e
+
+    pub soft-accepted : (working : List ℤ) (signs : List ℕ) → left r output working signs ≡ decodeOutcome i8 code llrs output₀ working₀ signs₀ maxiters → answer ≡ 0
+        → a ≡ answerOf (softFrom code maxiters (toLlrsOutcome (negsuc 0) (pos 1) code frame llrs₀) output₀ working₀ signs₀)
+    soft-accepted working signs f h =
+        let s : answerOf (softText (decodeOutcome i8 code llrs output₀ working₀ signs₀ maxiters)) ≡ from (written answer llrs) = rw (eq-eqb answer 0 h) in
+        p ∙ ap (λ (x : Outcome ℤ). answerOf (softText x)) f ∙ s ∙ ap from e
+
+pub ruleset reports = (report-refused, report-accepted, encode-refused, encode-accepted, flip-reported, soft-refused, soft-accepted, needs)

@@ -7,8 +7,10 @@ ghost use Rattle.encoder.specs.Outcomes.{copyEncodeOutcome};
 ghost use Rattle.bit_flip.specs.Outcome.{outcome};
 ghost use Rattle.min_sum.specs.Outcomes.{toLlrsOutcome};
 ghost use Rattle.sheet_text.specs.Printing.{most, answerOf};
+ghost use Rattle.sheet.specs.Rooms.{RowOf};
 ghost use Rattle.sheet.specs.Sheet.{reported, encodedText, flippedText, softFrom, encodeSheet, bfSheet, msSheet};
 use codes::ACCEPTED;
+use codes::CodeParams;
 use codes::MAX_BITS;
 use codes::MAX_BYTES;
 use codes::MAX_SENT;
@@ -33,6 +35,12 @@ pub(crate) fn print_report(r: Report, output: &[u8]) -> Answer
     print(r.answer, r.success, r.iters, output)
 }
 
+fn row_of(code: usize) -> CodeParams
+    ensures { λ r. ⌜ RowOf code r ⌝ }
+{
+    params(code).row
+}
+
 fn encode_into(code: usize, frame: &[u8], codeword: &mut [u8]) -> Answer
     requires { ⌜ length (now codeword) ≤ most ⌝ }
     ensures { λ a. ⌜ a ≡ answerOf (encodedText (copyEncodeOutcome code (now (frame .entry)) (now (codeword .entry)))) ⌝ }
@@ -48,7 +56,7 @@ pub(crate) fn encode_frame(code: usize, frame: &[u8]) -> Answer
     ensures { λ a. ⌜ a ≡ answerOf (encodeSheet code (now (frame .entry))) ⌝ }
 {
     let mut codeword = [0u8; MAX_SENT_BYTES];
-    let n = params(code).row.n / 8;
+    let n = row_of(code).n / 8;
     encode_into(code, frame, &mut codeword[..n])
 }
 
@@ -71,7 +79,7 @@ pub(crate) fn flip_frame(code: usize, frame: &[u8], maxiters: usize) -> Answer
 {
     let mut output = [0u8; MAX_BYTES];
     let mut working = [0u8; MAX_BITS];
-    let row = params(code).row;
+    let row = row_of(code);
     let o = row.output_len;
     let w = row.decode_bf_working_len;
     flip_into(code, frame, &mut output[..o], &mut working[..w], maxiters)
@@ -104,7 +112,7 @@ pub(crate) fn soft_frame(code: usize, frame: &[u8], maxiters: usize) -> Answer
     let mut output = [0u8; MAX_BYTES];
     let mut working = [0i8; MAX_SOFT_WORKING];
     let mut signs = [0u8; MAX_SIGNS];
-    let row = params(code).row;
+    let row = row_of(code);
     let n = row.n;
     let o = row.output_len;
     let w = row.decode_ms_working_len;
