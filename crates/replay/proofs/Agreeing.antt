@@ -2,13 +2,14 @@
 use mathlib.Core.Bool.{Bool, true, false, not, Bool·beq}
 use mathlib.Core.List.{List}
 use mathlib.Core.Path.{_≡_, refl, sym, ap, _∙_}
-use Prim.Native.Nat.{ℕ, _-_}
+use Prim.Native.Nat.{ℕ, _-_, _≤_}
 use native.Mathlib.Omega.{arith}
-use borrow.Author.Tests.{eqb-true, eq-eqb}
+use borrow.Author.Needs.{needs}
+use borrow.Author.Tests.{not-true, not-false, eqb-true, eq-eqb}
 use lib.Dec.{eqb}
 use lib.IntN.{ℤ}
 use lib.ListN.{length, take, replicate}
-use lib.Seq.{take-append-seam}
+use lib.Seq.{length-take-le, take-append-seam}
 use Rattle.report.specs.declared.Report.{Report}
 use Rattle.report.specs.Report.{Told, told}
 use Rattle.report.proofs.Ending.{is-ending}
@@ -17,6 +18,7 @@ use Rattle.min_sum.specs.Confidence.{i8}
 use Rattle.min_sum.specs.Outcomes as soft
 use Rattle.sheet_text.specs.declared.print.Answer.{Answer}
 use Rattle.sheet_text.specs.Printing.{room, answerOf}
+use Rattle.sheet_text.proofs.Writes.{answer-fits}
 use Rattle.replay.specs.declared.cases.Case.{Case}
 use Rattle.replay.specs.Agreement.{Agrees, softened, Converted, recorded, Compared, bitFlipping, toldFlip, minSum, toldSoft, FlipCompared, SoftCompared}
 
@@ -85,12 +87,12 @@ module _ (c : Case) (want input output working : List ℕ) {r : Report} {o w : L
 
 -- a decoder of the confidences l that bytes were read as
 module _ (c : Case) (want bytes output : List ℕ) (llrs working : List ℤ) (signs : List ℕ) {l w : List ℤ} {r : Report} {o s : List ℕ} {b : Bool}
-    (n : l ≡ softened bytes llrs) (d : soft.left r o w s ≡ soft.decodeOutcome i8 (c .code) l output working signs (c .most)) (a : Agrees b (r ≡ recorded c)) where
+    (n : l ≡ softened bytes llrs) (d : soft.left r o w s ≡ soft.decodeOutcome i8 (c .code) l output working signs (c .limit)) (a : Agrees b (r ≡ recorded c)) where
   abbrev outcome : soft.Outcome ℤ
   outcome = minSum c bytes output llrs working signs
 
   left-is : soft.left r o w s ≡ outcome
-  left-is = d ∙ ap (λ (l : List ℤ). soft.decodeOutcome i8 (c .code) l output working signs (c .most)) n
+  left-is = d ∙ ap (λ (l : List ℤ). soft.decodeOutcome i8 (c .code) l output working signs (c .limit)) n
 
   pub soft-other : b ≡ false → SoftCompared c want outcome false o w s
   soft-other f =
@@ -124,10 +126,25 @@ module _ {A : Type 0} (want : List A) {n : ℕ} {xs : List A} {x : soft.Written 
       }
 
 -- the hard bits of the confidences l that bytes were read as
-pub hard-of : (code : ℕ) (bytes output : List ℕ) (llrs : List ℤ) {l : List ℤ} {x : soft.Written ℕ} → l ≡ softened bytes llrs
-    → x ≡ soft.toHardOutcome i8 code l output → x ≡ soft.toHardOutcome i8 code (softened bytes llrs) output
-hard-of code bytes output llrs n d = d ∙ ap (λ (l : List ℤ). soft.toHardOutcome i8 code l output) n
+module _ (code : ℕ) (want bytes output : List ℕ) (llrs l : List ℤ) (n : ℕ) (xs : List ℕ) (e : l ≡ softened bytes llrs) (d : soft.written n xs ≡ soft.toHardOutcome i8 code l output) where
+  hard-is : soft.written n xs ≡ soft.toHardOutcome i8 code (softened bytes llrs) output
+  hard-is = d ∙ ap (λ (l : List ℤ). soft.toHardOutcome i8 code l output) e
 
--- a sheet's answer: the text lies at the front of its bytes
-pub answer-text : {a : Answer} (text : List ℕ) → a ≡ answerOf text → take (a .len) (a .bytes) ≡ text
-answer-text text e = rw e (take-append-seam text (replicate (room - length text) 0))
+  pub hard-refused : (n ≡ 0 → ⊥) → Converted (soft.toHardOutcome i8 code (softened bytes llrs) output) want false xs
+  hard-refused h = refused want hard-is h
+
+  pub hard-accepted : {t : Bool} → n ≡ 0 → (t ≡ true → xs ≡ want) × (xs ≡ want → t ≡ true) → Converted (soft.toHardOutcome i8 code (softened bytes llrs) output) want t xs
+  hard-accepted h g = accepted want hard-is h (agrees-by refl g)
+
+-- ---- a sheet's answer: the text lies at the front of its bytes
+module _ (a : Answer) (text : List ℕ) (e : a ≡ answerOf text) where
+  pub text-fits : a .len ≤ length (a .bytes)
+  text-fits = answer-fits text e
+
+  pub text-long : a .len ≡ length (take (a .len) (a .bytes))
+  text-long = sym (length-take-le (a .len) (a .bytes) text-fits)
+
+  pub text-agrees : (r : Bool) (want : List ℕ) → (r ≡ true → take (a .len) (a .bytes) ≡ want) × (take (a .len) (a .bytes) ≡ want → r ≡ true) → Agrees r (text ≡ want)
+  text-agrees r want g = agrees-by (rw e (take-append-seam text (replicate (room - length text) 0))) g
+
+pub ruleset agreeing = (other-answer, other-success, iters-tell, flip-other, flip-same, soft-other, soft-same, refused, accepted, hard-refused, hard-accepted, text-fits, text-long, text-agrees, not-true, not-false, needs)

@@ -3,7 +3,8 @@ use mathlib.Core.Bool.{Bool, true, false}
 use mathlib.Core.List.{List}
 use mathlib.Core.Path.{_≡_, sym, ap, _∙_}
 use Prim.Native.Nat.{ℕ, _/_}
-use borrow.Author.Tests.{eq-eqb}
+use borrow.Author.Needs.{needs}
+use borrow.Author.Tests.{not-true, eq-eqb}
 use lib.ListN.{length, take}
 use Rattle.codes.specs.Codes.{Known, rowOf}
 use Rattle.codes.specs.Frames.{encodedBytes}
@@ -37,8 +38,8 @@ module _ (code : ℕ) (m s : List ℕ) where
     pub copy-refused : (a ≡ 0 → ⊥) → EncodeCompared code m s want false w
     copy-refused h = record { agrees = denies (λ p. h (answered ∙ ap (λ (x : Encoded). x .answer) (p .copied))); left = copied }
 
-    pub copy-other : {b : Bool} → b ≡ false → (w ≡ want → b ≡ true) → EncodeCompared code m s want false w
-    copy-other f g = record { agrees = denies (λ p. never f (g (copied ∙ ap (λ (x : Encoded). x .codeword) (p .copied)))); left = copied }
+    pub copy-other : (b : Bool) → not b ≡ true → (b ≡ true → w ≡ want) × (w ≡ want → b ≡ true) → EncodeCompared code m s want false w
+    copy-other b f g = record { agrees = denies (λ p. never (not-true b f) (g .1 (copied ∙ ap (λ (x : Encoded). x .codeword) (p .copied)))); left = copied }
 
     -- the first call was accepted, and the second one is made
     module _ (z : a ≡ 0) {b : ℕ} {v : List ℕ} (f : encoded b v ≡ encodeOutcome code w) where
@@ -61,3 +62,5 @@ module _ (code : ℕ) (m s : List ℕ) where
                 };
             left = same ∙ copied;
           }
+
+pub ruleset encodings = (copy-refused, copy-other, again-refused, again-told, needs)

@@ -80,7 +80,7 @@ pub record Compared (c : Case) (want : List ℕ) (x : Told) (r : Bool) (output :
 
 -- what bit flipping leaves, as the case asks for it
 abbrev pub bitFlipping : Case → List ℕ → List ℕ → List ℕ → flip.Outcome
-bitFlipping c input output working = flip.outcome (c .code) input output working (c .most)
+bitFlipping c input output working = flip.outcome (c .code) input output working (c .limit)
 
 -- what is compared of that
 abbrev pub toldFlip : flip.Outcome → Told
@@ -88,7 +88,7 @@ toldFlip x = told (x .report) (x .output)
 
 -- what min-sum leaves, as the case asks for it, of the confidences that the bytes stand for
 abbrev pub minSum : Case → List ℕ → List ℕ → List ℤ → List ℤ → List ℕ → soft.Outcome ℤ
-minSum c bytes output llrs working signs = soft.decodeOutcome i8 (c .code) (softened bytes llrs) output working signs (c .most)
+minSum c bytes output llrs working signs = soft.decodeOutcome i8 (c .code) (softened bytes llrs) output working signs (c .limit)
 
 -- what is compared of that
 abbrev pub toldSoft : soft.Outcome ℤ → Told

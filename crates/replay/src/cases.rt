@@ -20,7 +20,7 @@ pub(crate) fn filled(fd: i32, buf: &mut [u8]) -> bool {
 pub(crate) struct Case {
     pub(crate) op: u8,
     pub(crate) code: usize,
-    pub(crate) most: usize,
+    pub(crate) limit: usize,
     pub(crate) success: bool,
     pub(crate) iters: usize,
     pub(crate) text: usize,
@@ -45,7 +45,7 @@ pub(crate) fn head(fd: i32) -> Case {
     Case {
         op: bytes[0],
         code: wide(bytes[1]),
-        most: wide(bytes[2]),
+        limit: wide(bytes[2]),
         success: bytes[3] == 1,
         iters: wide(bytes[4]),
         text: joined(bytes[1], bytes[2]),

@@ -51,7 +51,7 @@ fn reported(r: Report, c: Case) -> bool
 fn bit_flipping_on(c: Case, read: &[u8], want: &[u8], output: &mut [u8], working: &mut [u8]) -> bool
     ensures { λ r. ⌜ FlipCompared c (now (want .entry)) (bitFlipping c (now (read .entry)) (now (output .entry)) (now (working .entry))) r (now (output .exit)) (now (working .exit)) ⌝ }
 {
-    let r = bit_flip::decode_bf(c.code, read, output, working, c.most);
+    let r = bit_flip::decode_bf(c.code, read, output, working, c.limit);
     if !reported(r, c) {
         return false;
     }
@@ -84,7 +84,7 @@ fn min_sum_on(
     ensures { λ r. ⌜ (SoftCompared c (now (want .entry)) (minSum c (now (read .entry)) (now (output .entry)) (now (llrs .entry)) (now (working .entry)) (now (signs .entry))) r (now (output .exit)) (now (working .exit)) (now (signs .exit))) × (now (llrs .exit) ≡ softened (now (read .entry)) (now (llrs .entry))) ⌝ }
 {
     soften(read, llrs);
-    let r = min_sum::decode_ms_i8(c.code, llrs, output, working, signs, c.most);
+    let r = min_sum::decode_ms_i8(c.code, llrs, output, working, signs, c.limit);
     if !reported(r, c) {
         return false;
     }
