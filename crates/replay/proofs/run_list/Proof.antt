@@ -3,6 +3,7 @@ use borrow.Author.Needs.{needs}
 use Rattle.replay.proofs.run_list.Statement.{statement}
 use Rattle.replay.proofs.run_list.Tie as tie
 
+-- so many cases were run
 abbrev Inv-loop : tie.InvT-loop
 Inv-loop fd i₀ i = i ≤ 1000000
 
