@@ -1,5 +1,4 @@
 // Reads a bench sheet from standard input and writes the answer to standard output.
-ghost use Prim.Native.Nat.{_≤_};
 ghost use lib.ListN.{length};
 ghost use Rattle.bench.specs.Input.{Within};
 use libc::STDIN_FILENO;

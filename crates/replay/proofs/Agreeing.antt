@@ -2,14 +2,13 @@
 use mathlib.Core.Bool.{Bool, true, false, not, Bool·beq}
 use mathlib.Core.List.{List}
 use mathlib.Core.Path.{_≡_, refl, sym, ap, _∙_}
-use Prim.Native.Nat.{ℕ, _-_, _≤_}
+use Prim.Native.Nat.{ℕ, _-_}
 use native.Mathlib.Omega.{arith}
-use borrow.Author.Needs.{needs}
 use borrow.Author.Tests.{not-true, not-false, eqb-true, eq-eqb}
 use lib.Dec.{eqb}
 use lib.IntN.{ℤ}
 use lib.ListN.{length, take, replicate}
-use lib.Seq.{length-take-le, take-append-seam}
+use lib.Seq.{take-append-seam}
 use Rattle.report.specs.declared.Report.{Report}
 use Rattle.report.specs.Report.{Told, told}
 use Rattle.report.proofs.Ending.{is-ending}
@@ -18,7 +17,7 @@ use Rattle.min_sum.specs.Confidence.{i8}
 use Rattle.min_sum.specs.Outcomes as soft
 use Rattle.sheet_text.specs.declared.print.Answer.{Answer}
 use Rattle.sheet_text.specs.Printing.{room, answerOf}
-use Rattle.sheet_text.proofs.Writes.{answer-fits}
+use Rattle.sheet_text.proofs.Writes.{answers}
 use Rattle.replay.specs.declared.cases.Case.{Case}
 use Rattle.replay.specs.Agreement.{Agrees, softened, Converted, recorded, Compared, bitFlipping, toldFlip, minSum, toldSoft, FlipCompared, SoftCompared}
 
@@ -137,14 +136,8 @@ module _ (code : ℕ) (want bytes output : List ℕ) (llrs l : List ℤ) (n : �
   hard-accepted h g = accepted want hard-is h (agrees-by refl g)
 
 -- ---- a sheet's answer: the text lies at the front of its bytes
-module _ (a : Answer) (text : List ℕ) (e : a ≡ answerOf text) where
-  pub text-fits : a .len ≤ length (a .bytes)
-  text-fits = answer-fits text e
+pub text-agrees : (a : Answer) (text want : List ℕ) (r : Bool) → a ≡ answerOf text
+    → (r ≡ true → take (a .len) (a .bytes) ≡ want) × (take (a .len) (a .bytes) ≡ want → r ≡ true) → Agrees r (text ≡ want)
+text-agrees a text want r e g = agrees-by (rw e (take-append-seam text (replicate (room - length text) 0))) g
 
-  pub text-long : a .len ≡ length (take (a .len) (a .bytes))
-  text-long = sym (length-take-le (a .len) (a .bytes) text-fits)
-
-  pub text-agrees : (r : Bool) (want : List ℕ) → (r ≡ true → take (a .len) (a .bytes) ≡ want) × (take (a .len) (a .bytes) ≡ want → r ≡ true) → Agrees r (text ≡ want)
-  text-agrees r want g = agrees-by (rw e (take-append-seam text (replicate (room - length text) 0))) g
-
-pub ruleset agreeing = (other-answer, other-success, iters-tell, flip-other, flip-same, soft-other, soft-same, refused, accepted, hard-refused, hard-accepted, text-fits, text-long, text-agrees, not-true, not-false, needs)
+pub ruleset agreeing = (other-answer, other-success, iters-tell, flip-other, flip-same, soft-other, soft-same, refused, accepted, hard-refused, hard-accepted, text-agrees, not-true, not-false, answers)

@@ -7,8 +7,8 @@ use native.Mathlib.Nat.{zero-add, add-zero}
 use native.Mathlib.Numerals.{add-one}
 use native.Mathlib.Omega.{arith}
 use borrow.Author.Needs.{needs}
-use lib.ListN.{length, getD, set, drop, replicate, length-append, length-set, drop-of-length-le}
-use lib.Seq.{sets}
+use lib.ListN.{length, getD, set, take, drop, replicate, length-append, length-set, drop-of-length-le}
+use lib.Seq.{sets, length-take-le}
 use mir.Syntax.{w8, w64}
 use mir.Val.{Fits}
 use Rattle.maths.proofs.Stores.{sets-append, sets-replicate}
@@ -157,5 +157,11 @@ answered a b b₁ b₂ t n q p h =
 pub ruleset rooms = (digits-room, newline-room, line-low, hex-room, hex-low, answered, written-then, needs)
 
 -- the text of an answer lies within its bytes
-pub answer-fits : {a : Answer} (text : List ℕ) → a ≡ answerOf text → a .len ≤ length (a .bytes)
-answer-fits text e = rw e (omega (arith, length-append text (replicate {A = ℕ} (room - length text) 0)))
+module _ (a : Answer) (text : List ℕ) (e : a ≡ answerOf text) where
+  pub answer-fits : a .len ≤ length (a .bytes)
+  answer-fits = rw e (omega (arith, length-append text (replicate {A = ℕ} (room - length text) 0)))
+
+  pub answer-long : a .len ≡ length (take (a .len) (a .bytes))
+  answer-long = sym (length-take-le (a .len) (a .bytes) answer-fits)
+
+pub ruleset answers = (answer-fits, answer-long, needs)

@@ -5,6 +5,7 @@ use Rattle.codes.specs.Codes.{codes}
 use Rattle.edges.proofs.main.Statement.{statement}
 use Rattle.edges.proofs.main.Tie as tie
 
+-- the codes below this one are written
 abbrev Inv-loop : tie.InvT-loop
 Inv-loop code₀ code = code ≤ codes
 

@@ -7,6 +7,7 @@ use borrow.Author.Needs.{needs}
 use Rattle.edges.proofs.write_edges.Statement.{statement}
 use Rattle.edges.proofs.write_edges.Tie as tie
 
+-- nothing is asked of the walk
 abbrev Inv-loop : tie.InvT-loop
 Inv-loop walk₀ walk = Unit
 
