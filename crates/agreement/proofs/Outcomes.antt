@@ -35,7 +35,7 @@ use Rattle.labrador_ldpc.specs.Doors.{Row, row, paramsOutcome, Hard, hard, hard
 use Rattle.sheet_text.specs.declared.read.Reading.{Reading}
 use Rattle.sheet_text.specs.declared.print.Answer.{Answer}
 use Rattle.sheet_text.specs.Reading.{unhexed, readOf, textNumber, readAnswer}
-use Rattle.sheet_text.specs.Printing.{printed, most, answerOf}
+use Rattle.sheet_text.specs.Printing.{printed, maxOutput, answerOf}
 use Rattle.sheet.specs.Sheet.{sheetOf}
 use Rattle.measure.specs.Sum.{sumOf}
 
@@ -219,7 +219,7 @@ pub hex-bytes-one : (digits out : List ℕ) {x y : List ℕ} → x ≡ unhexed d
 hex-bytes-one digits out = one
 
 pub print-one : (answer : ℕ) (success : Bool) (iters : ℕ) (output : List ℕ) {x y : Answer}
-    → x ≡ answerOf (printed answer success iters (take most output)) → y ≡ answerOf (printed answer success iters (take most output)) → x ≡ y
+    → x ≡ answerOf (printed answer success iters (take maxOutput output)) → y ≡ answerOf (printed answer success iters (take maxOutput output)) → x ≡ y
 print-one answer success iters output = one
 
 pub sheet-one : (text : List ℕ) {x y : Answer} → x ≡ answerOf (sheetOf text) → y ≡ answerOf (sheetOf text) → x ≡ y

@@ -15,7 +15,7 @@ use Rattle.bit_flip.specs.Outcome as flip
 use Rattle.min_sum.specs.Confidence.{i8}
 use Rattle.min_sum.specs.Outcomes.{Outcome, left, Written, written, toLlrsOutcome, decodeOutcome}
 use Rattle.sheet_text.specs.declared.print.Answer.{Answer}
-use Rattle.sheet_text.specs.Printing.{printed, most, answerOf}
+use Rattle.sheet_text.specs.Printing.{printed, maxOutput, answerOf}
 use Rattle.sheet.specs.Sheet.{reported, encodeReport, encodedText, flippedText, softText, softFrom}
 
 -- the report r is printed as the answer a
@@ -23,8 +23,8 @@ module _ (r : Report) (output : List ℕ) (a : Answer) where
   pub report-refused : (r .answer ≡ 0 → ⊥) → a ≡ answerOf (printed (r .answer) (r .success) (r .iters) []) → a ≡ answerOf (reported r output)
   report-refused h e = rw (ne-eqb (r .answer) 0 h) e
 
-  pub report-accepted : r .answer ≡ 0 → length output ≤ most → a ≡ answerOf (printed (r .answer) (r .success) (r .iters) (take most output)) → a ≡ answerOf (reported r output)
-  report-accepted h l e = e ∙ rw (take-all most output l, eq-eqb (r .answer) 0 h)
+  pub report-accepted : r .answer ≡ 0 → length output ≤ maxOutput → a ≡ answerOf (printed (r .answer) (r .success) (r .iters) (take maxOutput output)) → a ≡ answerOf (reported r output)
+  report-accepted h l e = e ∙ rw (take-all maxOutput output l, eq-eqb (r .answer) 0 h)
 
   -- the encoder
   module _ (code : ℕ) (frame codeword : List ℕ) (answer : ℕ) (e : encoded answer output ≡ copyEncodeOutcome code frame codeword) (p : a ≡ answerOf (reported r output)) where

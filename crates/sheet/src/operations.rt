@@ -6,7 +6,7 @@ ghost use lib.IntN.{pos, negsuc};
 ghost use Rattle.encoder.specs.Outcomes.{copyEncodeOutcome};
 ghost use Rattle.bit_flip.specs.Outcome.{outcome};
 ghost use Rattle.min_sum.specs.Outcomes.{toLlrsOutcome};
-ghost use Rattle.sheet_text.specs.Printing.{most, answerOf};
+ghost use Rattle.sheet_text.specs.Printing.{maxOutput, answerOf};
 ghost use Rattle.sheet.specs.Rooms.{RowOf};
 ghost use Rattle.sheet.specs.Sheet.{reported, encodedText, flippedText, softFrom, encodeSheet, bfSheet, msSheet};
 use codes::ACCEPTED;
@@ -26,7 +26,7 @@ use sheet_text::print::print;
 
 // A refusal prints no output byte.
 pub(crate) fn print_report(r: Report, output: &[u8]) -> Answer
-    requires { ⌜ length (now output) ≤ most ⌝ }
+    requires { ⌜ length (now output) ≤ maxOutput ⌝ }
     ensures { λ a. ⌜ a ≡ answerOf (reported r (now (output .entry))) ⌝ }
 {
     if r.answer != ACCEPTED {
@@ -42,7 +42,7 @@ fn row_of(code: usize) -> CodeParams
 }
 
 fn encode_into(code: usize, frame: &[u8], codeword: &mut [u8]) -> Answer
-    requires { ⌜ length (now codeword) ≤ most ⌝ }
+    requires { ⌜ length (now codeword) ≤ maxOutput ⌝ }
     ensures { λ a. ⌜ a ≡ answerOf (encodedText (copyEncodeOutcome code (now (frame .entry)) (now (codeword .entry)))) ⌝ }
 {
     let answer = encoder::copy_encode(code, frame, codeword);
@@ -67,7 +67,7 @@ fn flip_into(
     working: &mut [u8],
     maxiters: usize,
 ) -> Answer
-    requires { ⌜ length (now output) ≤ most ⌝ }
+    requires { ⌜ length (now output) ≤ maxOutput ⌝ }
     ensures { λ a. ⌜ a ≡ answerOf (flippedText (outcome code (now (frame .entry)) (now (output .entry)) (now (working .entry)) maxiters)) ⌝ }
 {
     let r = bit_flip::decode_bf(code, frame, output, working, maxiters);
@@ -94,7 +94,7 @@ fn soft_into(
     signs: &mut [u8],
     maxiters: usize,
 ) -> Answer
-    requires { ⌜ length (now output) ≤ most ⌝ }
+    requires { ⌜ length (now output) ≤ maxOutput ⌝ }
     ensures { λ a. ⌜ a ≡ answerOf (softFrom code maxiters (toLlrsOutcome (negsuc 0) (pos 1) code (now (frame .entry)) (now (llrs .entry))) (now (output .entry)) (now (working .entry)) (now (signs .entry))) ⌝ }
 {
     let answer = min_sum::llrs::hard_to_llrs_i8(code, frame, llrs);

@@ -20,8 +20,8 @@ abbrev pub printed : ℕ → Bool → ℕ → List ℕ → List ℕ
 printed answer success iters output = head answer success iters ++ line (ascii "output=") (hex output)
 
 -- the most output bytes that are printed, and the bytes that an answer has
-abbrev pub most : ℕ
-most = 1280
+abbrev pub maxOutput : ℕ
+maxOutput = 1280
 
 abbrev pub room : ℕ
 room = 2720

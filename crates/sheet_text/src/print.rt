@@ -3,10 +3,10 @@ ghost use mathlib.Core.Path.{_≡_};
 ghost use Prim.Native.Nat.{_+_, _*_, _<_, _≤_};
 ghost use lib.ListN.{length, take};
 ghost use Rattle.sheet_text.specs.Text.{glyph, decimal, hex, line};
-ghost use Rattle.sheet_text.specs.Printing.{head, printed, most, room, answerOf, Written};
+ghost use Rattle.sheet_text.specs.Printing.{head, printed, maxOutput, room, answerOf, Written};
 
 // The most output bytes that are printed: no output of the library is longer.
-const MOST: usize = 1280;
+const MAX_OUTPUT: usize = 1280;
 
 // Room for that, and for one more line.
 pub const ROOM: usize = 2720;
@@ -87,7 +87,7 @@ fn put_head(bytes: &mut [u8; ROOM], answer: u8, success: bool, iters: usize) -> 
 }
 
 fn print_all(answer: u8, success: bool, iters: usize, output: &[u8]) -> Answer
-    requires { ⌜ length (now output) ≤ most ⌝ }
+    requires { ⌜ length (now output) ≤ maxOutput ⌝ }
     ensures { λ r. ⌜ r ≡ answerOf (printed answer success iters (now (output .entry))) ⌝ }
 {
     let mut bytes = [0u8; ROOM];
@@ -98,10 +98,10 @@ fn print_all(answer: u8, success: bool, iters: usize, output: &[u8]) -> Answer
 
 // The text of an answer; of an output that is too long, its first bytes.
 pub fn print(answer: u8, success: bool, iters: usize, output: &[u8]) -> Answer
-    ensures { λ r. ⌜ r ≡ answerOf (printed answer success iters (take most (now (output .entry)))) ⌝ }
+    ensures { λ r. ⌜ r ≡ answerOf (printed answer success iters (take maxOutput (now (output .entry)))) ⌝ }
 {
-    if output.len() > MOST {
-        return print_all(answer, success, iters, &output[..MOST]);
+    if output.len() > MAX_OUTPUT {
+        return print_all(answer, success, iters, &output[..MAX_OUTPUT]);
     }
     print_all(answer, success, iters, output)
 }
