@@ -30,24 +30,24 @@ use Rattle.agreement.proofs.Counting.{run-counted}
 
 -- a call is accepted, or refused by a number
 module _ (code : ℕ) (b : Hard) (limit : ℕ) where
-  accepted-is : bitFlipping .answer code b ≡ 0 → outcome code (b .input) (b .output) (b .working) limit ≡ decoded code (b .input) limit
+  accepted-is : bitFlipping .answer code b limit ≡ 0 → outcome code (b .input) (b .output) (b .working) limit ≡ decoded code (b .input) limit
   accepted-is h = is-accepted code (b .input) (b .output) (b .working) limit h
 
-  refused-is : (bitFlipping .answer code b ≡ 0 → ⊥)
-      → outcome code (b .input) (b .output) (b .working) limit ≡ left (refusal (bitFlipping .answer code b)) (b .output) (b .working)
+  refused-is : (bitFlipping .answer code b limit ≡ 0 → ⊥)
+      → outcome code (b .input) (b .output) (b .working) limit ≡ left (refusal (bitFlipping .answer code b limit)) (b .output) (b .working)
   unfolding outcome
-  refused-is h = rw (ne-eqb (bitFlipping .answer code b) 0 h)
+  refused-is h = rw (ne-eqb (bitFlipping .answer code b limit) 0 h)
 
   -- a success was accepted
-  pub bit-flip-accepted : bitFlip code b limit .report .success ≡ true → bitFlipping .answer code b ≡ 0
-  bit-flip-accepted e = by (ℕ-discrete (bitFlipping .answer code b) 0)
+  pub bit-flip-accepted : bitFlip code b limit .report .success ≡ true → bitFlipping .answer code b limit ≡ 0
+  bit-flip-accepted e = by (ℕ-discrete (bitFlipping .answer code b limit) 0)
     where
-      by : Dec (bitFlipping .answer code b ≡ 0) → bitFlipping .answer code b ≡ 0
+      by : Dec (bitFlipping .answer code b limit ≡ 0) → bitFlipping .answer code b limit ≡ 0
       by (yes h) = h
       by (no h) = absurd (let z : _≡_ {A = ℕ} 0 1 = cc (ap (λ (x : Outcome). x .report .success) (refused-is h)) in omega arith)
 
   -- the output is bytes, as many as the code has
-  module _ (h : bitFlipping .answer code b ≡ 0) where
+  module _ (h : bitFlipping .answer code b limit ≡ 0) where
     pub bit-flip-length : length (bitFlip code b limit .output) ≡ rowOf code .«output_len»
     unfolding decoded
     bit-flip-length = rw (accepted-is h) (length-pack _ (rowOf code .«output_len»))
@@ -58,9 +58,9 @@ module _ (code : ℕ) (b : Hard) (limit : ℕ) where
 
 pub bit-flip-table : DecodesByTable bitFlipping bitFlip
 unfolding decoded decodeWord
-bit-flip-table code b limit = by (ℕ-discrete (bitFlipping .answer code b) 0)
+bit-flip-table code b limit = by (ℕ-discrete (bitFlipping .answer code b limit) 0)
   where
-    by : Dec (bitFlipping .answer code b ≡ 0) → bitFlip code b limit .report .answer ≡ bitFlipping .answer code b
+    by : Dec (bitFlipping .answer code b limit ≡ 0) → bitFlip code b limit .report .answer ≡ bitFlipping .answer code b limit
     by (yes h) = ap (λ (x : Outcome). x .report .answer) (accepted-is code b limit h) ∙ sym h
     by (no h) = ap (λ (x : Outcome). x .report .answer) (refused-is code b limit h)
 
@@ -73,7 +73,7 @@ bit-flip-returns code b limit tc sent h k =
     (clean code (b .input) (b .output) (b .working) limit tc h (sent-bytes sent) (sent-meets sent tc) k)
 
 -- what an accepted call leaves of a sent TM frame: the frame completed
-pub bit-flip-telemetry : (code : ℕ) (b : Hard) (limit : ℕ) → TM code → Sent code (b .input) → bitFlipping .answer code b ≡ 0 → 1 ≤ limit
+pub bit-flip-telemetry : (code : ℕ) (b : Hard) (limit : ℕ) → TM code → Sent code (b .input) → bitFlipping .answer code b limit ≡ 0 → 1 ≤ limit
     → bitFlip code b limit ≡ told (ending true 0) (completionBytes code (b .input))
 bit-flip-telemetry code b limit tm sent h k =
     ap (λ (x : Outcome). told (x .report) (x .output))
@@ -89,7 +89,7 @@ bit-flip-completes code b limit tm sent h k =
 -- ---- a call by the equation that it leaves
 module _ (code : ℕ) (b : Hard) (limit : ℕ) {report : Report} {output working : List ℕ}
     (e : left report output working ≡ outcome code (b .input) (b .output) (b .working) limit) where
-  pub call-accepted : report .answer ≡ 0 → bitFlipping .answer code b ≡ 0
+  pub call-accepted : report .answer ≡ 0 → bitFlipping .answer code b limit ≡ 0
   call-accepted a = sym (bit-flip-table code b limit) ∙ sym (ap (λ (x : Outcome). x .report .answer) e) ∙ a
 
   pub call-told : told report output ≡ bitFlip code b limit

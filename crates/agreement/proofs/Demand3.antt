@@ -110,7 +110,7 @@ module _ {code : ℕ} (tc : TC code) {frame : List ℕ} (sent : Sent code frame)
     abbrev lent : Hard
     lent = record { input = received; output = old; working = working }
 
-    accepted : bitFlipping .answer code lent ≡ 0
+    accepted : bitFlipping .answer code lent limit ≡ 0
     accepted = call-accepted code lent limit e a
 
     left-told : told report output ≡ bitFlip code lent limit
@@ -157,7 +157,7 @@ module _ {code : ℕ} (tc : TC code) {frame : List ℕ} (sent : Sent code frame)
     abbrev soft-lent : Soft ℤ
     soft-lent = record { llrs = llrs; output = old; working = working; signs = signs }
 
-    soft-accepted : minSumming i8 .answer code soft-lent ≡ 0
+    soft-accepted : minSumming i8 .answer code soft-lent limit ≡ 0
     soft-accepted = sym (min-sum-table i8 code soft-lent limit) ∙ sym (ap (λ (x : Outcome ℤ). x .report .answer) e) ∙ a
 
     soft-told : told report output ≡ minSum i8 code soft-lent limit
@@ -171,11 +171,11 @@ module _ {code : ℕ} (tc : TC code) {frame : List ℕ} (sent : Sent code frame)
 
     -- one flipped bit is put right too; with a limit of 1 the output is what was received, with (false, 1)
     pub one-put-right-min-sum : distance frame received ≡ 1 → 2 ≤ limit → (report .success ≡ true) × (report .iters ≡ 1) × (output ≡ frame)
-    one-put-right-min-sum one k = back (soft-told ∙ soft-one tc sent 127 0 (omega arith) soft-lent one-size soft-accepted (rw hard-same one) limit k)
+    one-put-right-min-sum one k = back (soft-told ∙ soft-one tc sent 127 0 (omega arith) soft-lent one-size limit soft-accepted (rw hard-same one) k)
 
     pub one-seen-late-min-sum : distance frame received ≡ 1 → limit ≡ 1 → (report .success ≡ false) × (report .iters ≡ 1) × (output ≡ received)
     one-seen-late-min-sum one k =
-        back (soft-told ∙ rw (k, ← hard-same) (soft-late tc sent 127 0 (omega arith) soft-lent one-size soft-accepted (rw hard-same one)))
+        back (soft-told ∙ soft-late tc sent 127 0 (omega arith) soft-lent one-size limit soft-accepted (rw hard-same one) k ∙ rw hard-same)
 
   -- unchanged, with a limit of at least 1, it comes back the same with success at iteration 0
   pub unchanged-min-sum : (answer : ℕ) (before llrs : List ℤ) → written answer llrs ≡ toLlrsOutcome (negsuc 0) (pos 1) code frame before → answer ≡ 0

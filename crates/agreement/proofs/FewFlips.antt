@@ -27,7 +27,7 @@ use Rattle.agreement.proofs.MinSum.{min-sum-returns}
 
 module _ {code : ℕ} (tc : TC code) {frame : List ℕ} (sent : Sent code frame) where
   -- ---- bit flipping
-  module _ (b : Hard) (limit : ℕ) (h : bitFlipping .answer code b ≡ 0) where
+  module _ (b : Hard) (limit : ℕ) (h : bitFlipping .answer code b limit ≡ 0) where
     pub flip-one : distance frame (b .input) ≡ 1 → 2 ≤ limit → bitFlip code b limit ≡ told (ending true 1) frame
     flip-one one k =
         ap (λ (x : flip.Outcome). told (x .report) (x .output))
@@ -45,17 +45,17 @@ module _ {code : ℕ} (tc : TC code) {frame : List ℕ} (sent : Sent code frame)
         (x, y, k, is, taken, ap (λ (z : flip.Outcome). told (z .report) (z .output)) e)
 
   -- ---- min-sum, on whole numbers up to any largest
-  module _ (top k : ℕ) (fits : suc k ≤ top) (b : Soft ℤ) (size : OneSize k (b .llrs)) (h : minSumming (whole top) .answer code b ≡ 0)
+  module _ (top k : ℕ) (fits : suc k ≤ top) (b : Soft ℤ) (size : OneSize k (b .llrs)) (limit : ℕ) (h : minSumming (whole top) .answer code b limit ≡ 0)
       (one : distance frame (toHard (whole top) (b .llrs)) ≡ 1) where
-    pub soft-one : (limit : ℕ) → 2 ≤ limit → minSum (whole top) code b limit ≡ told (ending true 1) frame
-    soft-one limit two =
+    pub soft-one : 2 ≤ limit → minSum (whole top) code b limit ≡ told (ending true 1) frame
+    soft-one two =
         ap (λ (x : Outcome ℤ). told (x .report) (x .output))
         (softly.one-put-right code tc frame (sent-bytes sent) (sent-length sent) (sent-meets sent tc) top k fits (b .llrs) size (b .output) (b .working) (b .signs) h one limit two)
 
-    pub soft-late : minSum (whole top) code b 1 ≡ told (ending false 1) (toHard (whole top) (b .llrs))
-    soft-late =
-        ap (λ (x : Outcome ℤ). told (x .report) (x .output))
-        (softly.one-seen-late code tc frame (sent-bytes sent) (sent-length sent) (sent-meets sent tc) top k fits (b .llrs) size (b .output) (b .working) (b .signs) h one)
+    pub soft-late : limit ≡ 1 → minSum (whole top) code b limit ≡ told (ending false 1) (toHard (whole top) (b .llrs))
+    soft-late single =
+        rw single (ap (λ (x : Outcome ℤ). told (x .report) (x .output))
+        (softly.one-seen-late code tc frame (sent-bytes sent) (sent-length sent) (sent-meets sent tc) top k fits (b .llrs) size (b .output) (b .working) (b .signs) h one))
 
 -- ---- the demand
 pub bit-flip-few : FewFlipsReturn bitFlipping anyBits 2 bitFlip
@@ -72,6 +72,6 @@ pub min-sum-few : (top : ℕ) → FewFlipsReturn (minSumming (whole top)) (oneSi
 min-sum-few top =
     record {
       unchanged = min-sum-returns (whole top) (steady top);
-      one = λ code b limit frame tc sent h plain e two. soft-one tc sent top (plain .0) (plain .1) b (plain .2) h e limit two;
+      one = λ code b limit frame tc sent h plain e two. soft-one tc sent top (plain .0) (plain .1) b (plain .2) limit h e two;
       two = λ most. absurd (omega arith);
     }

@@ -2,7 +2,7 @@
 use mathlib.Core.List.{List, _∷_}
 use mathlib.Core.Bool.{true, false}
 use mathlib.Core.Path.{_≡_, refl, sym, ap, _∙_}
-use Prim.Native.Nat.{ℕ, zero, suc, _%_, _<_}
+use Prim.Native.Nat.{ℕ, zero, suc, _%_, _≤_, _<_}
 use native.Mathlib.Omega.{arith}
 use lib.IntN.{pos, negsuc}
 use lib.ListN.{length, getD}
@@ -100,10 +100,10 @@ pub copy-no-idle : NoIdleEncoder copyEncoding
 unfolding rows
 copy-no-idle = no-idle-encoder (record { lend = λ x. record { message = message x; codeword = spoilt }; accepted = λ x. refl; brings = λ x. refl; before = refl })
 
--- ---- decoders: calls that are accepted, and bring a given word, and what ours does with them
+-- ---- decoders: calls that are accepted with a limit of at most 2, and bring a given word, and what ours does with them
 record Receives {B : Type 0} (calls : Receiving B) (ours : Decoder B) : Type 0 where
   lend : List ℕ → B
-  accepted : (s : List ℕ) → length s ≡ 16 → calls .answer 0 (lend s) ≡ 0
+  accepted : (s : List ℕ) → length s ≡ 16 → (limit : ℕ) → limit ≤ 2 → calls .answer 0 (lend s) limit ≡ 0
   brings : (s : List ℕ) → Bytes s → calls .word (lend s) ≡ s
   before : (s : List ℕ) → calls .output (lend s) ≡ spoilt
   misses : ours 0 (lend spoilt) 1 .report .success ≡ false
@@ -113,9 +113,9 @@ record Receives {B : Type 0} (calls : Receiving B) (ours : Decoder B) : Type 0 w
   follows : DecodesAs calls ours
 
 module _ {B : Type 0} {calls : Receiving B} {ours : Decoder B} (c : Receives calls ours) where
-  frame-accepted : (x : ℕ) → x < 256 → calls .answer 0 (c .lend (frame x)) ≡ 0
+  frame-accepted : (x : ℕ) → x < 256 → calls .answer 0 (c .lend (frame x)) 1 ≡ 0
   unfolding rows
-  frame-accepted x h = c .accepted (frame x) (sent-length (frame-sent x h))
+  frame-accepted x h = c .accepted (frame x) (sent-length (frame-sent x h)) 1 (omega arith)
 
   -- a frame that comes back
   returned : (d : Decoder B) → FrameReturns calls d → (x : ℕ) → x < 256 → d 0 (c .lend (frame x)) 1 ≡ told (ending true 0) (frame x)
@@ -123,28 +123,31 @@ module _ {B : Type 0} {calls : Receiving B} {ours : Decoder B} (c : Receives cal
       let e = c .brings (frame x) (sent-bytes (frame-sent x h)) in
       r 0 (c .lend (frame x)) 1 (omega arith) (rw e (frame-sent x h)) (frame-accepted x h) (omega arith) ∙ rw e
 
-  spoilt-accepted : calls .answer 0 (c .lend spoilt) ≡ 0
+  spoilt-accepted : (limit : ℕ) → limit ≤ 2 → calls .answer 0 (c .lend spoilt) limit ≡ 0
   spoilt-accepted = c .accepted spoilt refl
 
+  spoilt-once : calls .answer 0 (c .lend spoilt) 1 ≡ 0
+  spoilt-once = spoilt-accepted 1 (omega arith)
+
   -- whoever follows the steps leaves what ours leaves
-  as-ours : (d : Decoder B) → DecodesAs calls d → (s : List ℕ) (limit : ℕ) → calls .answer 0 (c .lend s) ≡ 0 → d 0 (c .lend s) limit ≡ ours 0 (c .lend s) limit
+  as-ours : (d : Decoder B) → DecodesAs calls d → (s : List ℕ) (limit : ℕ) → calls .answer 0 (c .lend s) limit ≡ 0 → d 0 (c .lend s) limit ≡ ours 0 (c .lend s) limit
   as-ours d same s limit h = same 0 (c .lend s) limit h ∙ sym (c .follows 0 (c .lend s) limit h)
 
   -- and not the same output after one pass and after two
   not-still : (d : Decoder B) → DecodesAs calls d → d 0 (c .lend spoilt) 1 .output ≡ d 0 (c .lend spoilt) 2 .output → ⊥
   not-still d same e =
-      c .moves (ap (λ (x : Told). x .output) (sym (as-ours d same spoilt 1 spoilt-accepted)) ∙ e ∙ ap (λ (x : Told). x .output) (as-ours d same spoilt 2 spoilt-accepted))
+      c .moves (ap (λ (x : Told). x .output) (sym (as-ours d same spoilt 1 spoilt-once)) ∙ e ∙ ap (λ (x : Told). x .output) (as-ours d same spoilt 2 (spoilt-accepted 2 (omega arith))))
 
   no-idle-decoder : NoIdleDecoder calls
   no-idle-decoder =
       let b = c .lend spoilt in
       record {
-        refusing = λ number low table. omega (arith, low 0 b, table 0 b 1 ∙ spoilt-accepted);
+        refusing = λ number low table. omega (arith, low 0 b 1, table 0 b 1 ∙ spoilt-once);
         failing = λ d r. let z : _≡_ {A = ℕ} 0 1 = cc (ap (λ (x : Told). x .report .success) (returned (fails d) r 0 (omega arith))) in omega arith;
         one-answer = λ x r. frames-apart (ap (λ (y : Told). y .output) (sym (returned (decodesAlike x) r 0 (omega arith)) ∙ returned (decodesAlike x) r 0xff (omega arith)));
-        resting = λ says true-said meets. spoilt-unmet (rw (c .before spoilt) at (meets 0 b 1 (true-said 0 b 1 spoilt-accepted (omega arith))));
+        resting = λ says true-said meets. spoilt-unmet (rw (c .before spoilt) at (meets 0 b 1 (true-said 0 b 1 spoilt-once (omega arith))));
         copying = λ says true-said meets.
-            spoilt-unmet (rw (c .brings spoilt (bytes-then 0xff 15 (omega arith))) at (meets 0 b 1 (true-said 0 b 1 spoilt-accepted (omega arith))));
+            spoilt-unmet (rw (c .brings spoilt (bytes-then 0xff 15 (omega arith))) at (meets 0 b 1 (true-said 0 b 1 spoilt-once (omega arith))));
         resting-frame = λ says r.
             let e : spoilt ≡ frame 0 = sym (c .before (frame 0)) ∙ ap (λ (x : Told). x .output) (returned (rests calls says) r 0 (omega arith)) in
             spoilt-unmet (rw e (sent-meets (frame-sent 0 (omega arith)) (omega arith)));
@@ -152,10 +155,10 @@ module _ {B : Type 0} {calls : Receiving B} {ours : Decoder B} (c : Receives cal
         working-once = λ d same. not-still (worksOnce d) same refl;
         made-up = λ d e x y code b limit h. counted-one (x code b limit h) (y code b limit h);
         one-number = λ d n counts.
-            let same : (s : List ℕ) → calls .answer 0 (c .lend s) ≡ 0 → n ≡ ours 0 (c .lend s) 1 .report .iters =
+            let same : (s : List ℕ) → calls .answer 0 (c .lend s) 1 ≡ 0 → n ≡ ours 0 (c .lend s) 1 .report .iters =
             λ s h. counted-one (counts 0 (c .lend s) 1 h) (c .counts 0 (c .lend s) 1 h) .1 in
             let none : n ≡ 0 = same (frame 0) (frame-accepted 0 (omega arith)) ∙ ap (λ (x : Told). x .report .iters) (returned ours (c .returns) 0 (omega arith)) in
-            let one : n ≡ 1 = same spoilt spoilt-accepted ∙ c .counts 0 b 1 spoilt-accepted .spent (c .misses) in
+            let one : n ≡ 1 = same spoilt spoilt-once ∙ c .counts 0 b 1 spoilt-once .spent (c .misses) in
             omega arith;
         never-succeeding = λ d same.
             let e = as-ours (fails d) same (frame 0) 1 (frame-accepted 0 (omega arith)) ∙ returned ours (c .returns) 0 (omega arith) in
@@ -168,7 +171,7 @@ module _ {B : Type 0} {calls : Receiving B} {ours : Decoder B} (c : Receives cal
   put-right : (d : Decoder B) → FewFlipsReturn calls plain 1 d → d 0 (c .lend damaged) 2 ≡ told (ending true 1) (frame 0)
   put-right d f =
       let e : distance (frame 0) (calls .word (c .lend damaged)) ≡ 1 = rw (c .brings damaged (bytes-then 0x80 15 (omega arith))) one-flipped in
-      f .one 0 (c .lend damaged) 2 (frame 0) (omega arith) (frame-sent 0 (omega arith)) (c .accepted damaged refl) (is-plain damaged) e (omega arith)
+      f .one 0 (c .lend damaged) 2 (frame 0) (omega arith) (frame-sent 0 (omega arith)) (c .accepted damaged refl 2 (omega arith)) (is-plain damaged) e (omega arith)
 
   -- and so the output is the frame
   put-out : (d : Decoder B) (s : List ℕ) → FewFlipsReturn calls plain 1 d → d 0 (c .lend damaged) 2 .output ≡ s → getD s 0 0 ≡ 0
@@ -194,7 +197,7 @@ unfolding rows
 flip-receives =
     record {
       lend = hardLent;
-      accepted = λ s e. rw e;
+      accepted = λ s e limit few. rw e;
       brings = λ s bytes. refl;
       before = λ s. refl;
       misses = flip-misses;

@@ -31,9 +31,9 @@ use Rattle.agreement.proofs.Counting.{run-counted}
 
 module _ {C : Type 0} (o : Confidence C) where
   pub min-sum-table : DecodesByTable (minSumming o) (minSum o)
-  min-sum-table code b limit = by (ℕ-discrete (minSumming o .answer code b) 0)
+  min-sum-table code b limit = by (ℕ-discrete (minSumming o .answer code b limit) 0)
     where
-      by : Dec (minSumming o .answer code b ≡ 0) → minSum o code b limit .report .answer ≡ minSumming o .answer code b
+      by : Dec (minSumming o .answer code b limit ≡ 0) → minSum o code b limit .report .answer ≡ minSumming o .answer code b limit
       by (yes h) = ap (λ (x : Outcome C). x .report .answer) (accepted-is o code (b .llrs) (b .output) (b .working) (b .signs) limit h) ∙ sym h
       by (no h) = ap (λ (x : Outcome C). x .report .answer) (sym (decode-refused o code (b .llrs) (b .output) (b .working) (b .signs) limit refl h))
 
@@ -42,7 +42,7 @@ module _ {C : Type 0} (o : Confidence C) where
     abbrev ran : ℕ → End (Messages C)
     ran = decoded o code (b .llrs)
 
-    module _ (h : minSumming o .answer code b ≡ 0) where
+    module _ (h : minSumming o .answer code b limit ≡ 0) where
       report-is : minSum o code b limit .report ≡ ending (ran limit .success) (ran limit .turns)
       report-is = ap (λ (x : Outcome C). x .report) (accepted-is o code (b .llrs) (b .output) (b .working) (b .signs) limit h)
 
@@ -75,10 +75,10 @@ module _ {C : Type 0} (o : Confidence C) where
       ap (λ (x : Outcome C). told (x .report) (x .output)) (accepted-is o code (b .llrs) (b .output) (b .working) (b .signs) limit h)
 
   -- a success was accepted
-  pub min-sum-accepted : (code : ℕ) (b : Soft C) (limit : ℕ) → minSum o code b limit .report .success ≡ true → minSumming o .answer code b ≡ 0
-  min-sum-accepted code b limit e = by (ℕ-discrete (minSumming o .answer code b) 0)
+  pub min-sum-accepted : (code : ℕ) (b : Soft C) (limit : ℕ) → minSum o code b limit .report .success ≡ true → minSumming o .answer code b limit ≡ 0
+  min-sum-accepted code b limit e = by (ℕ-discrete (minSumming o .answer code b limit) 0)
     where
-      by : Dec (minSumming o .answer code b ≡ 0) → minSumming o .answer code b ≡ 0
+      by : Dec (minSumming o .answer code b limit ≡ 0) → minSumming o .answer code b limit ≡ 0
       by (yes h) = h
       by (no h) =
           absurd (let f = decode-refused o code (b .llrs) (b .output) (b .working) (b .signs) limit refl h in

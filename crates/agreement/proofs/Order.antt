@@ -72,7 +72,7 @@ pub another-order : DecodesAs (minSumming i8) (addsBackwards i8) → ⊥
 unfolding turn rows
 another-order same =
     let bit : Messages ℤ → ℕ = λ s. bitAt (toHard i8 (s .marginals)) 9 in
-    let e = ap (λ (x : Told). bitAt (x .output) 9) (same 0 (softLent spoilt) 2 (soft-accepted spoilt refl)) in
+    let e = ap (λ (x : Told). bitAt (x .output) 9) (same 0 (softLent spoilt) 2 (soft-accepted spoilt refl 2 (omega arith))) in
     let one = ap bit (two-passes back back-first) ∙ output-bit (back (back begun) .marginals) (back-long (back begun)) 9 (omega arith) ∙ back-bit in
     let none = ap bit (two-passes next first-bits) ∙ next-output (next begun) 9 (omega arith) ∙ next-bit in
     let z : _≡_ {A = ℕ} 1 0 = sym one ∙ e ∙ none in

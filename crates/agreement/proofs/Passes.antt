@@ -2,7 +2,7 @@
 use mathlib.Core.Bool.{Bool, true, false}
 use mathlib.Core.List.{List, [], _∷_, _++_, append-nil, flatMap}
 use mathlib.Core.Path.{_≡_, refl, sym, ap, _∙_, fun-ext}
-use Prim.Native.Nat.{ℕ, zero, suc, _+_, _-_, _%_, _<_, max}
+use Prim.Native.Nat.{ℕ, zero, suc, _+_, _-_, _%_, _≤_, _<_, max}
 use native.Mathlib.Nat.{add-zero, zero-add}
 use native.Mathlib.Decide.{decLt}
 use native.Mathlib.Omega.{arith}
@@ -230,18 +230,18 @@ soft-goes : soft.turn i8 (edges 0) 64 0 llrs begun ≡ go (next begun)
 unfolding soft.turn
 soft-goes = goes-on next first-bits
 
-pub soft-accepted : (s : List ℕ) → length s ≡ 16 → minSumming i8 .answer 0 (softLent s) ≡ 0
+pub soft-accepted : (s : List ℕ) → length s ≡ 16 → (limit : ℕ) → limit ≤ 2 → minSumming i8 .answer 0 (softLent s) limit ≡ 0
 unfolding decodeAnswer rows
-soft-accepted s e = rw (llrs-length i8 (negsuc 99) (pos 100) s, e)
+soft-accepted s e limit few = rw (llrs-length i8 (negsuc 99) (pos 100) s, e)
 
-soft-is : (limit : ℕ) → minSum i8 0 (softLent spoilt) limit ≡ told (ending (ran limit .success) (ran limit .turns)) (toHard i8 (ran limit .state .marginals))
+soft-is : (limit : ℕ) → limit ≤ 2 → minSum i8 0 (softLent spoilt) limit ≡ told (ending (ran limit .success) (ran limit .turns)) (toHard i8 (ran limit .state .marginals))
 unfolding rows
-soft-is limit =
+soft-is limit few =
     ap (λ (x : Outcome ℤ). told (x .report) (x .output))
-    (accepted-is i8 0 llrs spoilt (replicate 1280 (pos 0)) (zeros 8) limit (soft-accepted spoilt refl))
+    (accepted-is i8 0 llrs spoilt (replicate 1280 (pos 0)) (zeros 8) limit (soft-accepted spoilt refl limit few))
 
 pub soft-misses : minSum i8 0 (softLent spoilt) 1 .report .success ≡ false
-soft-misses = ap (λ (x : Told). x .report .success) (soft-is 1) ∙ ap (λ (x : End (soft.Messages ℤ)). x .success) (run-once (soft.turn i8 (edges 0) 64 0 llrs) soft-goes)
+soft-misses = ap (λ (x : Told). x .report .success) (soft-is 1 (omega arith)) ∙ ap (λ (x : End (soft.Messages ℤ)). x .success) (run-once (soft.turn i8 (edges 0) 64 0 llrs) soft-goes)
 
 -- a bit of an output is that of its marginals
 pub llrs-long : length llrs ≡ 128
@@ -259,8 +259,8 @@ soft-moves same =
     let one : ran 1 .state ≡ next begun = ap (λ (x : End (soft.Messages ℤ)). x .state) (run-once (soft.turn i8 (edges 0) 64 0 llrs) soft-goes) in
     let two : ran 2 .state ≡ next (next begun) = two-passes next first-bits in
     let e : toHard i8 (next begun .marginals) ≡ toHard i8 (next (next begun) .marginals) =
-    ap (λ (s : soft.Messages ℤ). toHard i8 (s .marginals)) (sym one) ∙ sym (ap (λ (x : Told). x .output) (soft-is 1)) ∙ same
-    ∙ ap (λ (x : Told). x .output) (soft-is 2) ∙ ap (λ (s : soft.Messages ℤ). toHard i8 (s .marginals)) two in
+    ap (λ (s : soft.Messages ℤ). toHard i8 (s .marginals)) (sym one) ∙ sym (ap (λ (x : Told). x .output) (soft-is 1 (omega arith))) ∙ same
+    ∙ ap (λ (x : Told). x .output) (soft-is 2 (omega arith)) ∙ ap (λ (s : soft.Messages ℤ). toHard i8 (s .marginals)) two in
     let z : _≡_ {A = ℕ} 1 0 =
     sym (ap (λ (f : ℕ → ℕ). f 0) first-bits) ∙ sym (next-output begun 0 (omega arith)) ∙ ap (λ (s : List ℕ). bitAt s 0) e ∙ next-output (next begun) 0 (omega arith) ∙ second-bit in
     omega arith

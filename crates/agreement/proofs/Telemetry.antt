@@ -69,7 +69,7 @@ module _ {code : ℕ} (tm : TM code) {frame : List ℕ} (sent : Sent code frame)
         → (take (rowOf code .n / 8) output ≡ frame) × (output ≡ completionBytes code frame)
     telemetry-corrected long one near = telemetry-near long (omega arith)
 
--- ---- idle versions: two messages of TM1280, their frames, and calls that are accepted
+-- ---- idle versions: two messages of TM1280, their frames, and calls with a limit of 1, which are accepted
 abbrev message : ℕ → List ℕ
 message x = x ∷ zeros 127
 
@@ -87,7 +87,7 @@ frame-long : (x : ℕ) → x < 256 → length (frameBy x) ≡ 160
 unfolding rows
 frame-long x h = sender.sent-length (frame-sent x h)
 
-lent-accepted : (x : ℕ) → x < 256 → bitFlipping .answer 3 (lent x) ≡ 0
+lent-accepted : (x : ℕ) → x < 256 → bitFlipping .answer 3 (lent x) 1 ≡ 0
 unfolding rows
 lent-accepted x h = rw (frame-long x h)
 

@@ -42,10 +42,10 @@ module _ {B : Type 0} (calls : Sending B) (e : Encoder B) where
 abbrev pub Decoder : Type 0 → Type 0
 Decoder B = ℕ → B → ℕ → Told
 
--- how it is called: the number of the first test that the buffers fail, or 0, the word that they bring, and the output before;
+-- how it is called: the number of the first test that the call fails, or 0, the word that it brings, and the output before;
 -- and what document 01's steps make of an accepted call: the word at hand in a pass, by its number, and what is told at the end
 pub record Receiving (B : Type 0) : Type 0 where
-  pub answer : ℕ → B → ℕ
+  pub answer : ℕ → B → ℕ → ℕ
   pub word : B → List ℕ
   pub output : B → List ℕ
   pub hand : ℕ → B → ℕ → ℕ → ℕ → ℕ
@@ -63,7 +63,7 @@ pub record Counted (code : ℕ) (hand : ℕ → ℕ → ℕ) (limit : ℕ) (r : 
 module _ {B : Type 0} (calls : Receiving B) (d : Decoder B) where
   -- the refusal table
   abbrev pub DecodesByTable : Type 0
-  DecodesByTable = (code : ℕ) (b : B) (limit : ℕ) → d code b limit .report .answer ≡ calls .answer code b
+  DecodesByTable = (code : ℕ) (b : B) (limit : ℕ) → d code b limit .report .answer ≡ calls .answer code b limit
 
   -- demand 3: whatever it calls a success meets every parity equation
   abbrev pub SuccessMeets : Type 0
@@ -71,29 +71,29 @@ module _ {B : Type 0} (calls : Receiving B) (d : Decoder B) where
 
   -- demand 3: a frame of a TC code that comes unchanged, with a limit of at least 1, comes back the same with success at iteration 0
   abbrev pub FrameReturns : Type 0
-  FrameReturns = (code : ℕ) (b : B) (limit : ℕ) → TC code → Sent code (calls .word b) → calls .answer code b ≡ 0 → 1 ≤ limit
+  FrameReturns = (code : ℕ) (b : B) (limit : ℕ) → TC code → Sent code (calls .word b) → calls .answer code b limit ≡ 0 → 1 ≤ limit
       → d code b limit ≡ told (ending true 0) (calls .word b)
 
   -- request T-10: a frame of a TM code that comes unchanged, with a limit of at least 1, comes back completed, with success at iteration 0
   abbrev pub FrameCompletes : Type 0
-  FrameCompletes = (code : ℕ) (b : B) (limit : ℕ) → TM code → Sent code (calls .word b) → calls .answer code b ≡ 0 → 1 ≤ limit
+  FrameCompletes = (code : ℕ) (b : B) (limit : ℕ) → TM code → Sent code (calls .word b) → calls .answer code b limit ≡ 0 → 1 ≤ limit
       → (d code b limit .report ≡ ending true 0) × Completes code (calls .word b) (d code b limit .output)
 
   -- demand 2: the iteration number is the pass count
   abbrev pub CountsPasses : Type 0
-  CountsPasses = (code : ℕ) (b : B) (limit : ℕ) → calls .answer code b ≡ 0 → Counted code (calls .hand code b limit) limit (d code b limit .report)
+  CountsPasses = (code : ℕ) (b : B) (limit : ℕ) → calls .answer code b limit ≡ 0 → Counted code (calls .hand code b limit) limit (d code b limit .report)
 
   -- demand 2: the report and the output are those of document 01's steps, for each limit
   abbrev pub DecodesAs : Type 0
-  DecodesAs = (code : ℕ) (b : B) (limit : ℕ) → calls .answer code b ≡ 0 → d code b limit ≡ calls .steps code b limit
+  DecodesAs = (code : ℕ) (b : B) (limit : ℕ) → calls .answer code b limit ≡ 0 → d code b limit ≡ calls .steps code b limit
 
 -- request T-11, and beyond it what the tables give: a frame of a TC code comes back though one of its bits, or two where `most` is two, were flipped
 -- on the way. `plain` are the calls of which this is asked
 pub record FewFlipsReturn {B : Type 0} (calls : Receiving B) (plain : B → Type 0) (most : ℕ) (d : Decoder B) : Type 0 where
   pub unchanged : FrameReturns calls d
   -- "the limit is 2 or more .. return the sent frame with (true, 1)"
-  pub one : (code : ℕ) (b : B) (limit : ℕ) (frame : List ℕ) → TC code → Sent code frame → calls .answer code b ≡ 0 → plain b
+  pub one : (code : ℕ) (b : B) (limit : ℕ) (frame : List ℕ) → TC code → Sent code frame → calls .answer code b limit ≡ 0 → plain b
       → distance frame (calls .word b) ≡ 1 → 2 ≤ limit → d code b limit ≡ told (ending true 1) frame
   -- with two: a limit of 4 or more, at iteration 1, 2 or 3
-  pub two : 2 ≤ most → (code : ℕ) (b : B) (limit : ℕ) (frame : List ℕ) → TC code → Sent code frame → calls .answer code b ≡ 0 → plain b
+  pub two : 2 ≤ most → (code : ℕ) (b : B) (limit : ℕ) (frame : List ℕ) → TC code → Sent code frame → calls .answer code b limit ≡ 0 → plain b
       → distance frame (calls .word b) ≡ 2 → 4 ≤ limit → (k : ℕ) × (1 ≤ k) × (k ≤ 3) × (d code b limit ≡ told (ending true k) frame)

@@ -37,8 +37,8 @@ module _ {B : Type 0} where
   rests calls says code b limit = told (says code b limit) (calls .output b)
 
   -- "Always refusing", by some number
-  abbrev pub refuses : Receiving B → (ℕ → B → ℕ) → Decoder B
-  refuses calls number = rests calls (λ code b limit. refusal (number code b))
+  abbrev pub refuses : Receiving B → (ℕ → B → ℕ → ℕ) → Decoder B
+  refuses calls number = rests calls (λ code b limit. refusal (number code b limit))
 
   -- "always saying false": any decoder, whose every success is struck out
   abbrev pub fails : Decoder B → Decoder B
@@ -66,7 +66,7 @@ module _ {B : Type 0} where
 
   -- it says true of every call that is accepted, with a limit of at least 1
   abbrev pub SaysTrue : Receiving B → Reports B → Type 0
-  SaysTrue calls says = (code : ℕ) (b : B) (limit : ℕ) → calls .answer code b ≡ 0 → 1 ≤ limit → says code b limit .success ≡ true
+  SaysTrue calls says = (code : ℕ) (b : B) (limit : ℕ) → calls .answer code b limit ≡ 0 → 1 ≤ limit → says code b limit .success ≡ true
 
 -- ---- no idle encoder, of those that are called so, meets the demands
 pub record NoIdleEncoder {B : Type 0} (calls : Sending B) : Type 0 where
@@ -81,7 +81,7 @@ pub record NoIdleEncoder {B : Type 0} (calls : Sending B) : Type 0 where
 -- ---- no idle decoder, of those that are called so, meets the demands
 pub record NoIdleDecoder {B : Type 0} (calls : Receiving B) : Type 0 where
   -- "Always refusing, or always saying false: the refusal table and demand 3's unchanged frame shut them out."
-  pub refusing : (number : ℕ → B → ℕ) → ((code : ℕ) (b : B) → 1 ≤ number code b) → DecodesByTable calls (refuses calls number) → ⊥
+  pub refusing : (number : ℕ → B → ℕ → ℕ) → ((code : ℕ) (b : B) (limit : ℕ) → 1 ≤ number code b limit) → DecodesByTable calls (refuses calls number) → ⊥
   pub failing : (d : Decoder B) → FrameReturns calls (fails d) → ⊥
   -- "One fixed answer": two frames come back, each as it was
   pub one-answer : (x : Told) → FrameReturns calls (decodesAlike x) → ⊥
@@ -96,7 +96,7 @@ pub record NoIdleDecoder {B : Type 0} (calls : Receiving B) : Type 0 where
   pub working-once : (d : Decoder B) → DecodesAs calls (worksOnce d) → ⊥
   -- "A made-up iteration number: it must be the pass at which the equations first hold": decoders that count their passes say the same, so
   -- none has a number of its own, or tests only every second pass
-  pub made-up : (d e : Decoder B) → CountsPasses calls d → CountsPasses calls e → (code : ℕ) (b : B) (limit : ℕ) → calls .answer code b ≡ 0
+  pub made-up : (d e : Decoder B) → CountsPasses calls d → CountsPasses calls e → (code : ℕ) (b : B) (limit : ℕ) → calls .answer code b limit ≡ 0
       → (d code b limit .report .success ≡ e code b limit .report .success) × (d code b limit .report .iters ≡ e code b limit .report .iters)
   -- and no one number will do
   pub one-number : (d : Decoder B) (n : ℕ) → CountsPasses calls (renumbered (λ code b limit. n) d) → ⊥
@@ -112,7 +112,7 @@ pub record NoIdleCorrector {B : Type 0} (calls : Receiving B) (plain : B → Typ
   pub resting : (says : Reports B) → FewFlipsReturn calls plain 1 (rests calls says) → ⊥
   -- a made-up number: with one bit flipped it is 1, so no one number will do
   pub made-up : (number : ℕ → B → ℕ → ℕ) (d : Decoder B) → FewFlipsReturn calls plain 1 (renumbered number d) → (code : ℕ) (b : B) (limit : ℕ) (frame : List ℕ)
-      → TC code → Sent code frame → calls .answer code b ≡ 0 → plain b → distance frame (calls .word b) ≡ 1 → 2 ≤ limit → number code b limit ≡ 1
+      → TC code → Sent code frame → calls .answer code b limit ≡ 0 → plain b → distance frame (calls .word b) ≡ 1 → 2 ≤ limit → number code b limit ≡ 1
   pub one-number : (n : ℕ) (d : Decoder B) → FewFlipsReturn calls plain 1 (renumbered (λ code b limit. n) d) → ⊥
 
 -- ---- nor do those that fail, rest, copy or have one answer complete an unchanged frame of a TM code; for that pass 0 is enough
@@ -125,7 +125,7 @@ pub record NoIdleCompleter {B : Type 0} (calls : Receiving B) : Type 0 where
   pub copying : (says : Reports B) → FrameCompletes calls (copies calls says) → ⊥
   -- a made-up number: it is 0
   pub made-up : (number : ℕ → B → ℕ → ℕ) (d : Decoder B) → FrameCompletes calls (renumbered number d) → (code : ℕ) (b : B) (limit : ℕ)
-      → TM code → Sent code (calls .word b) → calls .answer code b ≡ 0 → 1 ≤ limit → number code b limit ≡ 0
+      → TM code → Sent code (calls .word b) → calls .answer code b limit ≡ 0 → 1 ≤ limit → number code b limit ≡ 0
 
 -- ---- "Adding messages in another order: saturating sums depend on it.": min-sum that adds them from the last edge to the first
 module _ {C : Type 0} (o : Confidence C) (es : List Edge) (checks punctured : ℕ) (llrs : List C) where
