@@ -14,7 +14,6 @@ use Rattle.codes.specs.Codes.{TM, rowOf, bitsIn, checksIn}
 use Rattle.codes.specs.Edges.{edges}
 use Rattle.codes.specs.Equations.{wordOf}
 use Rattle.runs.specs.Meets.{holds}
-use Rattle.report.specs.declared.Report.{Report}
 use Rattle.report.specs.Report.{refusal, ending, Told, told}
 use Rattle.bit_flip.specs.Flip.{flipped, pass, passes}
 use Rattle.bit_flip.specs.Erasures.{erasurePasses}
@@ -22,7 +21,7 @@ use Rattle.bit_flip.specs.Outcome.{Outcome, left, decodeWord, received, punctur
 use Rattle.bit_flip.proofs.Theorems.{answerOf, is-accepted, success-meets, clean}
 use Rattle.telemetry.specs.Completion.{completionBytes, Completes}
 use Rattle.telemetry.proofs.Clean.{unchanged}
-use Rattle.agreement.specs.Parties.{Sent}
+use Rattle.agreement.specs.Parties.{Sent, toldFlip, ByFlipping}
 use Rattle.agreement.specs.Demands.{DecodesByTable, SuccessMeets, FrameReturns, FrameCompletes, CountsPasses, DecodesAs}
 use Rattle.agreement.specs.Ours.{Hard, bitFlip, flippedIn, bitFlipping}
 use Rattle.agreement.proofs.Sender.{of-message, sent-bytes, sent-meets, sent-completes}
@@ -69,14 +68,14 @@ bit-flip-meets code b limit = success-meets code (b .input) (b .output) (b .work
 
 pub bit-flip-returns : FrameReturns bitFlipping bitFlip
 bit-flip-returns code b limit tc sent h k =
-    ap (λ (x : Outcome). told (x .report) (x .output))
+    ap toldFlip
     (clean code (b .input) (b .output) (b .working) limit tc h (sent-bytes sent) (sent-meets sent tc) k)
 
 -- what an accepted call leaves of a sent TM frame: the frame completed
 pub bit-flip-telemetry : (code : ℕ) (b : Hard) (limit : ℕ) → TM code → Sent code (b .input) → bitFlipping .answer code b limit ≡ 0 → 1 ≤ limit
     → bitFlip code b limit ≡ told (ending true 0) (completionBytes code (b .input))
 bit-flip-telemetry code b limit tm sent h k =
-    ap (λ (x : Outcome). told (x .report) (x .output))
+    ap toldFlip
     (of-message sent (λ s. answerOf code s (b .output) (b .working) ≡ 0
     → outcome code s (b .output) (b .working) limit ≡ left (ending true 0) (completionBytes code s) (replicate (bitsIn code) 0))
     (λ msg bytes len e. unchanged code tm msg len (b .output) (b .working) limit e k) h)
@@ -86,14 +85,16 @@ bit-flip-completes code b limit tm sent h k =
     let e = bit-flip-telemetry code b limit tm sent h k in
     (ap (λ (x : Told). x .report) e, subst (Completes code (b .input)) (sym (ap (λ (x : Told). x .output) e)) (sent-completes sent tm))
 
--- ---- a call by the equation that it leaves
-module _ (code : ℕ) (b : Hard) (limit : ℕ) {report : Report} {output working : List ℕ}
-    (e : left report output working ≡ outcome code (b .input) (b .output) (b .working) limit) where
-  pub call-accepted : report .answer ≡ 0 → bitFlipping .answer code b limit ≡ 0
-  call-accepted a = sym (bit-flip-table code b limit) ∙ sym (ap (λ (x : Outcome). x .report .answer) e) ∙ a
+-- ---- an accepted call: what it was lent, and what it told
+module _ {code : ℕ} {received : List ℕ} {limit : ℕ} {x : Told} (c : ByFlipping code received limit x) where
+  abbrev pub flipping-lent : Hard
+  flipping-lent = record { input = received; output = c .old; working = c .working }
 
-  pub call-told : told report output ≡ bitFlip code b limit
-  call-told = ap (λ (x : Outcome). told (x .report) (x .output)) e
+  pub flipping-accepted : bitFlipping .answer code flipping-lent limit ≡ 0
+  flipping-accepted = sym (bit-flip-table code flipping-lent limit) ∙ sym (ap (λ (y : Outcome). y .report .answer) (c .promise)) ∙ c .accepted
+
+  pub flipping-told : x ≡ bitFlip code flipping-lent limit
+  flipping-told = ap toldFlip (c .promise)
 
 -- the report of the main passes: the erasure pass counts no iteration
 abbrev begun : ℕ → List ℕ → ℕ → List ℕ
@@ -111,4 +112,4 @@ bit-flip-counts code b limit h =
     (λ w. refl) (begun code (b .input) limit) (λ i. refl) limit (ap (λ (x : Outcome). x .report) (accepted-is code b limit h) ∙ report-is code (b .input) limit)
 
 pub bit-flip-steps : DecodesAs bitFlipping bitFlip
-bit-flip-steps code b limit h = ap (λ (x : Outcome). told (x .report) (x .output)) (accepted-is code b limit h)
+bit-flip-steps code b limit h = ap toldFlip (accepted-is code b limit h)

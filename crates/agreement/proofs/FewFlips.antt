@@ -9,16 +9,14 @@ use Rattle.maths.specs.Distance.{distance, places}
 use Rattle.codes.specs.Codes.{TC}
 use Rattle.codes.specs.Edges.{edges}
 use Rattle.report.specs.Report.{ending, told}
-use Rattle.bit_flip.specs.Outcome as flip
 use Rattle.two_flips.specs.Flips.{PairFlips}
 use Rattle.two_flips.proofs.Frames as flips
 use Rattle.min_sum.specs.Confidence.{whole}
 use Rattle.min_sum.specs.Hard.{toHard}
-use Rattle.min_sum.specs.Outcomes.{Outcome}
 use Rattle.min_sum.proofs.Success.{steady}
 use Rattle.soft_flip.specs.OneSize.{OneSize}
 use Rattle.soft_flip.proofs.Frames as softly
-use Rattle.agreement.specs.Parties.{Sent}
+use Rattle.agreement.specs.Parties.{Sent, toldFlip, toldSoft}
 use Rattle.agreement.specs.Demands.{FewFlipsReturn}
 use Rattle.agreement.specs.Ours.{Hard, bitFlip, bitFlipping, anyBits, Soft, minSum, minSumming, oneSized}
 use Rattle.agreement.proofs.Sender.{sent-bytes, sent-length, sent-meets}
@@ -30,31 +28,31 @@ module _ {code : ℕ} (tc : TC code) {frame : List ℕ} (sent : Sent code frame)
   module _ (b : Hard) (limit : ℕ) (h : bitFlipping .answer code b limit ≡ 0) where
     pub flip-one : distance frame (b .input) ≡ 1 → 2 ≤ limit → bitFlip code b limit ≡ told (ending true 1) frame
     flip-one one k =
-        ap (λ (x : flip.Outcome). told (x .report) (x .output))
+        ap toldFlip
         (flips.one-put-right code tc frame (sent-bytes sent) (sent-length sent) (sent-meets sent tc) (b .input) (b .output) (b .working) limit h one k)
 
     pub flip-late : distance frame (b .input) ≡ 1 → limit ≡ 1 → bitFlip code b limit ≡ told (ending false 1) frame
     flip-late one k =
-        ap (λ (x : flip.Outcome). told (x .report) (x .output))
+        ap toldFlip
         (flips.one-seen-late code tc frame (sent-bytes sent) (sent-length sent) (sent-meets sent tc) (b .input) (b .output) (b .working) limit h one k)
 
     pub flip-two : distance frame (b .input) ≡ 2 → 4 ≤ limit
         → (x y k : ℕ) × (places frame (b .input) ≡ x ∷ y ∷ []) × PairFlips (edges code) x y k × (bitFlip code b limit ≡ told (ending true k) frame)
     flip-two two four =
         let (x, y, k, is, taken, e) = flips.two-put-right code tc frame (sent-bytes sent) (sent-length sent) (sent-meets sent tc) (b .input) (b .output) (b .working) limit h two four in
-        (x, y, k, is, taken, ap (λ (z : flip.Outcome). told (z .report) (z .output)) e)
+        (x, y, k, is, taken, ap toldFlip e)
 
   -- ---- min-sum, on whole numbers up to any largest
   module _ (top k : ℕ) (fits : suc k ≤ top) (b : Soft ℤ) (size : OneSize k (b .llrs)) (limit : ℕ) (h : minSumming (whole top) .answer code b limit ≡ 0)
       (one : distance frame (toHard (whole top) (b .llrs)) ≡ 1) where
     pub soft-one : 2 ≤ limit → minSum (whole top) code b limit ≡ told (ending true 1) frame
     soft-one two =
-        ap (λ (x : Outcome ℤ). told (x .report) (x .output))
+        ap toldSoft
         (softly.one-put-right code tc frame (sent-bytes sent) (sent-length sent) (sent-meets sent tc) top k fits (b .llrs) size (b .output) (b .working) (b .signs) h one limit two)
 
     pub soft-late : limit ≡ 1 → minSum (whole top) code b limit ≡ told (ending false 1) (toHard (whole top) (b .llrs))
     soft-late single =
-        rw single (ap (λ (x : Outcome ℤ). told (x .report) (x .output))
+        rw single (ap toldSoft
         (softly.one-seen-late code tc frame (sent-bytes sent) (sent-length sent) (sent-meets sent tc) top k fits (b .llrs) size (b .output) (b .working) (b .signs) h one))
 
 -- ---- the demand

@@ -4,10 +4,11 @@ pub mod Counting
 pub mod MinSum
 pub mod BitFlip
 pub mod FewFlips
-pub mod Demand3
+pub mod Received
 pub mod Zeros
 pub mod Examples
 pub mod Passes
 pub mod Idle
 pub mod Telemetry
+pub mod Demand3
 pub mod Order

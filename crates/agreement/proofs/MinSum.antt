@@ -1,6 +1,6 @@
 -- Min-sum meets the demands on a decoder, on any steady confidences. Assumes nothing.
-use mathlib.Core.Bool.{true}
-use mathlib.Core.List.{_++_, append-nil}
+use mathlib.Core.Bool.{true, false}
+use mathlib.Core.List.{List, _++_, append-nil}
 use mathlib.Core.Path.{_≡_, refl, sym, ap, _∙_}
 use Prim.Native.Nat.{ℕ, _%_}
 use native.Mathlib.Decide.{ℕ-discrete}
@@ -15,15 +15,17 @@ use Rattle.codes.specs.Edges.{edges}
 use Rattle.codes.specs.Equations.{Meets}
 use Rattle.matrices.proofs.Sizes.{tc-bits}
 use Rattle.matrices.proofs.Edges.{meets-same}
-use Rattle.report.specs.Report.{ending, told}
+use Rattle.report.specs.Report.{ending, Told}
 use Rattle.min_sum.specs.Confidence.{Confidence, Steady}
-use Rattle.min_sum.specs.MinSum.{Messages, at, hardBits, start, pass, met, turn, decoded}
-use Rattle.min_sum.specs.Hard.{toHard}
-use Rattle.min_sum.specs.Outcomes.{Outcome}
+use Rattle.min_sum.specs.MinSum.{Messages, hardBits, start, pass, met, turn, decoded}
+use Rattle.min_sum.specs.Hard.{toHard, toLlrs}
+use Rattle.min_sum.specs.Outcomes.{Outcome, Written, toLlrsOutcome}
 use Rattle.min_sum.specs.Working.{Lent}
 use Rattle.min_sum.proofs.Answers.{decode-lent, decode-refused}
+use Rattle.min_sum.proofs.Conversions.{llrs-hard}
 use Rattle.codes.proofs.Codes.{roomy}
 use Rattle.min_sum.proofs.Success.{sized-state, accepted-is, says-true, at-once, given-bit}
+use Rattle.agreement.specs.Parties.{toldSoft, ByMinSum}
 use Rattle.agreement.specs.Demands.{DecodesByTable, SuccessMeets, FrameReturns, CountsPasses, DecodesAs}
 use Rattle.agreement.specs.Ours.{Soft, minSum, marginalsIn, minSumming}
 use Rattle.agreement.proofs.Sender.{sent-meets}
@@ -72,7 +74,7 @@ module _ {C : Type 0} (o : Confidence C) where
 
   pub min-sum-steps : DecodesAs (minSumming o) (minSum o)
   min-sum-steps code b limit h =
-      ap (λ (x : Outcome C). told (x .report) (x .output)) (accepted-is o code (b .llrs) (b .output) (b .working) (b .signs) limit h)
+      ap toldSoft (accepted-is o code (b .llrs) (b .output) (b .working) (b .signs) limit h)
 
   -- a success was accepted
   pub min-sum-accepted : (code : ℕ) (b : Soft C) (limit : ℕ) → minSum o code b limit .report .success ≡ true → minSumming o .answer code b limit ≡ 0
@@ -98,4 +100,25 @@ module _ {C : Type 0} (o : Confidence C) where
       let good : Meets code (hardBits o (b .llrs)) =
       meets-same code (omega arith) (bitAt (toHard o (b .llrs))) (hardBits o (b .llrs)) (λ v l. ap (λ (x : ℕ). x % 2) ((rw given at bits) v l)) (sent-meets sent tc) in
       let e = at-once o code (b .llrs) (b .output) (b .working) (b .signs) limit h st k (rw given good) in
-      ap (λ (x : Outcome C). told (x .report) (x .output)) e ∙ rw given
+      ap toldSoft e ∙ rw given
+
+-- ---- an accepted call: what it was lent, and what it told
+module _ {C : Type 0} {o : Confidence C} {minus plus : C} {code : ℕ} {received : List ℕ} {limit : ℕ} {x : Told} (c : ByMinSum o minus plus code received limit x) where
+  abbrev pub summing-lent : Soft C
+  summing-lent = record { llrs = c .llrs; output = c .old; working = c .working; signs = c .signs }
+
+  pub summing-accepted : minSumming o .answer code summing-lent limit ≡ 0
+  summing-accepted = sym (min-sum-table o code summing-lent limit) ∙ sym (ap (λ (y : Outcome C). y .report .answer) (c .promise)) ∙ c .accepted
+
+  pub summing-told : x ≡ minSum o code summing-lent limit
+  summing-told = ap toldSoft (c .promise)
+
+  -- the LLRs that it was fed with, and their hard bits
+  pub summing-llrs : c .llrs ≡ toLlrs minus plus received
+  unfolding toLlrsOutcome
+  summing-llrs =
+      let t = sym (ap (λ (y : Written C). y .answer) (c .converted)) ∙ c .answered in
+      ap (λ (y : Written C). y .buffer) (c .converted) ∙ rw t
+
+  pub summing-hard : o .hard minus ≡ true → o .hard plus ≡ false → o .hard (o .zero) ≡ false → toHard o (c .llrs) ≡ received
+  summing-hard m p z = rw summing-llrs (llrs-hard o minus plus m p z received (c .bytes))

@@ -38,11 +38,12 @@ use Rattle.min_sum.specs.Soft.{clamp, satAdd, satSub, negated, size, below0, al
 use Rattle.min_sum.specs.Confidence.{i8}
 use Rattle.min_sum.specs.MinSum as soft
 use Rattle.min_sum.specs.Hard.{toHard, toLlrs}
-use Rattle.min_sum.specs.Outcomes.{Outcome, decodeAnswer}
+use Rattle.min_sum.specs.Outcomes.{decodeAnswer}
 use Rattle.min_sum.proofs.Conversions.{llrs-length, llrs-bits}
 use Rattle.min_sum.proofs.Marginals.{pass-length, first-hard}
 use Rattle.min_sum.proofs.Packed.{hard-bit}
 use Rattle.min_sum.proofs.Success.{accepted-is, steady}
+use Rattle.agreement.specs.Parties.{toldSoft}
 use Rattle.agreement.specs.Ours.{Hard, bitFlip, Soft, minSum, minSumming}
 use Rattle.agreement.specs.Examples.{zeros}
 
@@ -237,7 +238,7 @@ soft-accepted s e limit few = rw (llrs-length i8 (negsuc 99) (pos 100) s, e)
 soft-is : (limit : ℕ) → limit ≤ 2 → minSum i8 0 (softLent spoilt) limit ≡ told (ending (ran limit .success) (ran limit .turns)) (toHard i8 (ran limit .state .marginals))
 unfolding rows
 soft-is limit few =
-    ap (λ (x : Outcome ℤ). told (x .report) (x .output))
+    ap toldSoft
     (accepted-is i8 0 llrs spoilt (replicate 1280 (pos 0)) (zeros 8) limit (soft-accepted spoilt refl limit few))
 
 pub soft-misses : minSum i8 0 (softLent spoilt) 1 .report .success ≡ false

@@ -12,62 +12,49 @@ use Rattle.codes.specs.Codes.{TM, rows, rowOf}
 use Rattle.codes.specs.Frames.{encodedBytes}
 use Rattle.report.specs.declared.Report.{Report}
 use Rattle.report.specs.Report.{ending}
-use Rattle.bit_flip.specs.Outcome as flip
 use Rattle.telemetry.specs.Completion.{completionBytes, Completes}
 use Rattle.telemetry.proofs.Clean.{completes-once, completes-front}
 use Rattle.tm_distance.proofs.Frames.{frame-four, near-completes}
-use Rattle.agreement.specs.Parties.{Sent, Answered, by-copy-encode}
+use Rattle.agreement.specs.Parties.{Sent, by-copy-encode, Success}
 use Rattle.agreement.specs.Demands.{Decoder, FrameCompletes}
 use Rattle.agreement.specs.Ours.{Hard, bitFlipping}
 use Rattle.agreement.specs.Examples.{zeros}
+use Rattle.agreement.specs.Demand3.{Telemetry}
 use Rattle.agreement.specs.Idle.{fails, rests, decodesAlike, copies, NoIdleCompleter}
-use Rattle.agreement.proofs.Sender as sender
-use Rattle.agreement.proofs.BitFlip.{bit-flip-telemetry, call-accepted, call-told}
-use Rattle.agreement.proofs.Demand3.{succeeded, back, success-meets}
+use Rattle.agreement.proofs.Sender.{sent-length, sent-bytes, sent-completes}
+use Rattle.agreement.proofs.BitFlip.{bit-flip-telemetry, flipping-lent, flipping-accepted, flipping-told}
+use Rattle.agreement.proofs.Received.{succeeded, returned}
 use Rattle.agreement.proofs.Idle.{bytes-then}
 
-module _ {code : ℕ} (tm : TM code) {frame : List ℕ} (sent : Sent code frame) where
-  -- a sent frame has a completion,
-  pub sent-completes : Completes code frame (completionBytes code frame)
-  sent-completes = sender.sent-completes sent tm
+-- a success near a sent frame
+module _ {code : ℕ} {frame : List ℕ} (tm : TM code) (sent : Sent code frame) where
+  full : Completes code frame (completionBytes code frame)
+  full = sent-completes sent tm
 
-  -- and no other
-  pub sent-completes-once : (word : List ℕ) → Completes code frame word → word ≡ completionBytes code frame
-  sent-completes-once word c = completes-once code tm frame word (completionBytes code frame) c sent-completes
+  once : {word : List ℕ} → Completes code frame word → word ≡ completionBytes code frame
+  once {word} c = completes-once code tm frame word (completionBytes code frame) c full
 
-  -- the frame stands in front of it
-  pub frame-in-front : take (rowOf code .n / 8) (completionBytes code frame) ≡ frame
-  frame-in-front = completes-front code tm frame (completionBytes code frame) (sender.sent-bytes sent) (sender.sent-length sent) sent-completes
+  near : (received : List ℕ) {word : List ℕ} → length received ≡ rowOf code .n / 8
+      → distance frame received + distance received (take (rowOf code .n / 8) word) ≤ 3 → Success code word
+      → (take (rowOf code .n / 8) word ≡ frame) × (word ≡ completionBytes code frame)
+  near received {word} long few s =
+      let y = succeeded s in
+      let c = near-completes code tm frame (completionBytes code frame) (sent-bytes sent) (sent-length sent) full received word long few (y .long) (y .bytes) (y .meets) in
+      (completes-front code tm frame word (sent-bytes sent) (sent-length sent) c, once c)
 
-  -- unchanged, with a limit of at least 1, it comes back completed, with success at iteration 0
-  pub unchanged-telemetry : (old working : List ℕ) (limit : ℕ) → 1 ≤ limit → {report : Report} {output working′ : List ℕ}
-      → flip.left report output working′ ≡ flip.outcome code frame old working limit → report .answer ≡ 0
-      → (report .success ≡ true) × (report .iters ≡ 0) × (output ≡ completionBytes code frame)
-  unchanged-telemetry old working limit k e a =
-      let b : Hard = record { input = frame; output = old; working = working } in
-      back (call-told code b limit e ∙ bit-flip-telemetry code b limit tm sent (call-accepted code b limit e a) k)
-
-  -- ---- any decoder, whatever it reads and whatever the limit
-  module _ (received : List ℕ) {report : Report} {output : List ℕ} (a : Answered code report output) (success : report .success ≡ true) where
-    -- with one to three bits of the frame flipped, no success begins with what was received
-    pub telemetry-noticed : 0 < distance frame received → distance frame received < 4 → take (rowOf code .n / 8) output ≡ received → ⊥
-    telemetry-noticed some few e =
-        let four = frame-four code tm frame (completionBytes code frame) (sender.sent-bytes sent) (sender.sent-length sent) sent-completes output (success-meets a success) in
-        omega (arith, few, rw e at (four (rw e some)))
-
-    -- a success begins with the frame, and is its completion, if the way from the frame over what was received to its first n bits is of three bits at most
-    pub telemetry-near : length received ≡ rowOf code .n / 8 → distance frame received + distance received (take (rowOf code .n / 8) output) ≤ 3
-        → (take (rowOf code .n / 8) output ≡ frame) × (output ≡ completionBytes code frame)
-    telemetry-near long near =
-        let y = succeeded a success in
-        let c = near-completes code tm frame (completionBytes code frame) (sender.sent-bytes sent) (sender.sent-length sent) sent-completes
-        received output long near (y .long) (y .bytes) (y .meets) in
-        (completes-front code tm frame output (sender.sent-bytes sent) (sender.sent-length sent) c, sent-completes-once output c)
-
-    -- so with at most one flipped, a success within two bits of it
-    pub telemetry-corrected : length received ≡ rowOf code .n / 8 → distance frame received ≤ 1 → distance received (take (rowOf code .n / 8) output) ≤ 2
-        → (take (rowOf code .n / 8) output ≡ frame) × (output ≡ completionBytes code frame)
-    telemetry-corrected long one near = telemetry-near long (omega arith)
+  pub telemetry : Telemetry code frame
+  telemetry =
+      record {
+        sent-completes = full;
+        sent-completes-once = once;
+        frame-in-front = completes-front code tm frame (completionBytes code frame) (sent-bytes sent) (sent-length sent) full;
+        unchanged-telemetry = λ {limit} c k. returned (flipping-told c ∙ bit-flip-telemetry code (flipping-lent c) limit tm sent (flipping-accepted c) k);
+        telemetry-noticed = λ {received} {word} some few s e.
+            let four = frame-four code tm frame (completionBytes code frame) (sent-bytes sent) (sent-length sent) full word (succeeded s .meets) in
+            omega (arith, few, rw e at (four (rw e some)));
+        telemetry-corrected = λ received long one by s. near received long (omega arith) s;
+        telemetry-near = λ received long few s. near received long few s;
+      }
 
 -- ---- idle versions: two messages of TM1280, their frames, and calls with a limit of 1, which are accepted
 abbrev message : ℕ → List ℕ
@@ -85,7 +72,7 @@ frame-sent x h = by-copy-encode 0 (message x) (zeros 160) (bytes-then x 127 h) r
 
 frame-long : (x : ℕ) → x < 256 → length (frameBy x) ≡ 160
 unfolding rows
-frame-long x h = sender.sent-length (frame-sent x h)
+frame-long x h = sent-length (frame-sent x h)
 
 lent-accepted : (x : ℕ) → x < 256 → bitFlipping .answer 3 (lent x) 1 ≡ 0
 unfolding rows

@@ -21,6 +21,7 @@ use Rattle.min_sum.specs.MinSum as soft
 use Rattle.min_sum.specs.Hard.{toHard}
 use Rattle.min_sum.specs.Outcomes.{decodeAnswer, decodeOutcome}
 use Rattle.soft_flip.specs.OneSize.{OneSize}
+use Rattle.agreement.specs.Parties.{toldFlip, toldSoft}
 use Rattle.agreement.specs.Demands.{Encoder, Sending, Decoder, Receiving}
 
 -- ---- `encode` is lent the codeword, whose first k/8 bytes are the message
@@ -58,9 +59,7 @@ pub record Hard : Type 0 where
   pub working : List ℕ
 
 abbrev pub bitFlip : Decoder Hard
-bitFlip code b limit =
-    let x = outcome code (b .input) (b .output) (b .working) limit in
-    told (x .report) (x .output)
+bitFlip code b limit = toldFlip (outcome code (b .input) (b .output) (b .working) limit)
 
 -- "find broken checks": the word of a pass is what the erasure pass and the flips before it left
 abbrev pub flippedIn : ℕ → List ℕ → ℕ → ℕ → ℕ → ℕ
@@ -74,7 +73,7 @@ bitFlipping =
       word = λ b. b .input;
       output = λ b. b .output;
       hand = λ code b. flippedIn code (b .input);
-      steps = λ code b limit. let x = decoded code (b .input) limit in told (x .report) (x .output);
+      steps = λ code b limit. toldFlip (decoded code (b .input) limit);
     }
 
 -- hard bits have no confidences: any call will do
@@ -90,9 +89,7 @@ pub record Soft (C : Type 0) : Type 0 where
 
 module _ {C : Type 0} (o : Confidence C) where
   abbrev pub minSum : Decoder (Soft C)
-  minSum code b limit =
-      let x = decodeOutcome o code (b .llrs) (b .output) (b .working) (b .signs) limit in
-      told (x .report) (x .output)
+  minSum code b limit = toldSoft (decodeOutcome o code (b .llrs) (b .output) (b .working) (b .signs) limit)
 
   -- "If the hard bits of the marginals meet every equation": the word of a pass is what the passes up to it left
   abbrev pub marginalsIn : ℕ → List C → ℕ → ℕ → ℕ
