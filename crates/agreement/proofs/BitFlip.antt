@@ -8,6 +8,7 @@ use native.Mathlib.Decide.{ℕ-discrete}
 use native.Mathlib.Omega.{arith}
 use borrow.Author.Tests.{ne-eqb}
 use lib.ListN.{length, replicate}
+use Rattle.maths.specs.Tests.{Anything}
 use Rattle.maths.specs.Bytes.{Bytes}
 use Rattle.maths.proofs.Bytes.{length-pack, bytes-pack}
 use Rattle.codes.specs.Codes.{TM, rowOf, bitsIn, checksIn}
@@ -66,10 +67,9 @@ bit-flip-table code b limit = by (ℕ-discrete (bitFlipping .answer code b limit
 pub bit-flip-meets : SuccessMeets bitFlipping bitFlip
 bit-flip-meets code b limit = success-meets code (b .input) (b .output) (b .working) limit
 
-pub bit-flip-returns : FrameReturns bitFlipping bitFlip
-bit-flip-returns code b limit tc sent h k =
-    ap toldFlip
-    (clean code (b .input) (b .output) (b .working) limit tc h (sent-bytes sent) (sent-meets sent tc) k)
+pub bit-flip-returns : FrameReturns bitFlipping bitFlip Anything
+bit-flip-returns code b limit tc sent h any k =
+    ap toldFlip (clean code (b .input) (b .output) (b .working) limit tc h (sent-bytes sent) (sent-meets sent tc) k)
 
 -- what an accepted call leaves of a sent TM frame: the frame completed
 pub bit-flip-telemetry : (code : ℕ) (b : Hard) (limit : ℕ) → TM code → Sent code (b .input) → bitFlipping .answer code b limit ≡ 0 → 1 ≤ limit

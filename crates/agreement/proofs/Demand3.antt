@@ -1,4 +1,4 @@
--- Demand 3 holds: of any steady confidences, and so of i8. Assumes nothing.
+-- Demand 3 holds: of any confidences that are steady, with two of them for the bits, and so of i8. Assumes nothing.
 use mathlib.Core.Bool.{true, false}
 use mathlib.Core.List.{List}
 use mathlib.Core.Path.{_≡_, refl, sym, _∙_}
@@ -24,7 +24,7 @@ use Rattle.agreement.specs.Parties.{Sent, Success, ByMinSum}
 use Rattle.agreement.specs.Demand3.{Telecommand, Demand3}
 use Rattle.agreement.proofs.Sender.{sent-length, sent-bytes, sent-meets}
 use Rattle.agreement.proofs.BitFlip.{bit-flip-returns, flipping-lent, flipping-accepted, flipping-told}
-use Rattle.agreement.proofs.MinSum.{min-sum-returns, summing-lent, summing-accepted, summing-told, summing-llrs, summing-hard}
+use Rattle.agreement.proofs.MinSum.{min-sum-returns, summing-lent, summing-accepted, summing-told, summing-llrs, summing-in, summing-hard}
 use Rattle.agreement.proofs.FewFlips.{flip-one, flip-late, flip-two, soft-one, soft-late}
 use Rattle.agreement.proofs.Received.{succeeded, returned}
 use Rattle.agreement.proofs.Telemetry.{telemetry}
@@ -47,16 +47,18 @@ near {code} {frame} tc sent received {output} long few s =
     let over = distance-over frame received output (sent-length sent ∙ sym long) in
     sym (near-same code tc frame output (sent-length sent) (sent-meets sent tc) (y .meets) (y .long ∙ whole) (sent-bytes sent) (y .bytes) (omega arith))
 
-module _ {C : Type 0} (o : Confidence C) (st : Steady o) (minus plus : C) (m : o .hard minus ≡ true) (p : o .hard plus ≡ false) where
+module _ {C : Type 0} (o : Confidence C) {In : C → Type 0} (st : Steady o In) (minus plus : C) (minus-in : In minus) (plus-in : In plus)
+    (minus-hard : o .hard minus ≡ true) (plus-hard : o .hard plus ≡ false) where
   module _ {code : ℕ} {frame : List ℕ} (tc : TC code) (sent : Sent code frame) where
     telecommand : Telecommand o minus plus code frame
     telecommand =
         record {
           sent-meets = sent-meets sent tc;
-          unchanged-bit-flipping = λ {limit} c k. returned (flipping-told c ∙ bit-flip-returns code (flipping-lent c) limit tc sent (flipping-accepted c) k);
+          unchanged-bit-flipping = λ {limit} c k. returned (flipping-told c ∙ bit-flip-returns code (flipping-lent c) limit tc sent (flipping-accepted c) tt k);
           unchanged-min-sum = λ {limit} c k.
-              let same = summing-hard c m p (st .zero-hard) in
-              returned (summing-told c ∙ min-sum-returns o st code (summing-lent c) limit tc (rw same sent) (summing-accepted c) k ∙ rw same);
+              let same = summing-hard c minus-hard plus-hard (st .zero-hard) in
+              returned (summing-told c
+              ∙ min-sum-returns o st code (summing-lent c) limit tc (rw same sent) (summing-accepted c) (summing-in c st minus-in plus-in) k ∙ rw same);
           damage-noticed = λ {received} wrong s. wrong-noticed code tc frame received (sent-length sent) wrong (sent-meets sent tc) (succeeded s .meets);
           one-corrected = λ received long one by s. near tc sent received long (omega arith) s;
           four-corrected = λ received long four by s. near tc sent received long (omega arith) s;
@@ -83,4 +85,4 @@ module _ {C : Type 0} (o : Confidence C) (st : Steady o) (minus plus : C) (m : o
 -- of i8, with -1 for a 1 bit and 1 for a 0 bit
 pub demand3-i8 : Demand3 i8 (negsuc 0) (pos 1)
 unfolding below0
-demand3-i8 = demand3 i8 (steady 127) (negsuc 0) (pos 1) refl refl
+demand3-i8 = demand3 i8 (steady 127) (negsuc 0) (pos 1) tt tt refl refl

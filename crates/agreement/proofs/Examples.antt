@@ -65,7 +65,7 @@ module _ (code : ℕ) (old signs : List ℕ) (working : List ℤ) where
       let given : replicate n (pos 0) ++ replicate p (pos 0) ≡ replicate (n + p) (pos 0) = replicate-append-replicate n p (pos 0) in
       let bytes : length (replicate (n + p) (pos 0)) / 8 ≡ rowOf code .«output_len» =
       rw (length-replicate (n + p) (pos 0)) (omega (arith, roomy code (lent .is-known) .whole)) in
-      at-once i8 code (replicate n (pos 0)) old working signs 1 (rw long e) (steady 127) (omega arith) (rw (given, zero-hard (n + p)) (zero-meets code))
+      at-once i8 code (replicate n (pos 0)) old working signs 1 (rw long e) (steady 127) (λ i. tt) (omega arith) (rw (given, zero-hard (n + p)) (zero-meets code))
       ∙ rw (given, zero-hard (n + p), bytes, pack-zero (rowOf code .«output_len»))
 
 -- ---- the bench sheet: what it asks for, what bit flipping leaves, and what is printed of that

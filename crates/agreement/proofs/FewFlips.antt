@@ -5,6 +5,7 @@ use mathlib.Core.Path.{_≡_, ap}
 use Prim.Native.Nat.{ℕ, suc, _≤_}
 use native.Mathlib.Omega.{arith}
 use lib.IntN.{ℤ}
+use Rattle.maths.specs.Tests.{Anything}
 use Rattle.maths.specs.Distance.{distance, places}
 use Rattle.codes.specs.Codes.{TC}
 use Rattle.codes.specs.Edges.{edges}
@@ -13,15 +14,14 @@ use Rattle.two_flips.specs.Flips.{PairFlips}
 use Rattle.two_flips.proofs.Frames as flips
 use Rattle.min_sum.specs.Confidence.{whole}
 use Rattle.min_sum.specs.Hard.{toHard}
-use Rattle.min_sum.proofs.Success.{steady}
 use Rattle.soft_flip.specs.OneSize.{OneSize}
 use Rattle.soft_flip.proofs.Frames as softly
 use Rattle.agreement.specs.Parties.{Sent, toldFlip, toldSoft}
 use Rattle.agreement.specs.Demands.{FewFlipsReturn}
-use Rattle.agreement.specs.Ours.{Hard, bitFlip, bitFlipping, anyBits, Soft, minSum, minSumming, oneSized}
+use Rattle.agreement.specs.Ours.{Hard, bitFlip, bitFlipping, Soft, minSum, minSumming, oneSized}
 use Rattle.agreement.proofs.Sender.{sent-bytes, sent-length, sent-meets}
 use Rattle.agreement.proofs.BitFlip.{bit-flip-returns}
-use Rattle.agreement.proofs.MinSum.{min-sum-returns}
+use Rattle.agreement.proofs.MinSum.{whole-returns}
 
 module _ {code : ℕ} (tc : TC code) {frame : List ℕ} (sent : Sent code frame) where
   -- ---- bit flipping
@@ -56,7 +56,7 @@ module _ {code : ℕ} (tc : TC code) {frame : List ℕ} (sent : Sent code frame)
         (softly.one-seen-late code tc frame (sent-bytes sent) (sent-length sent) (sent-meets sent tc) top k fits (b .llrs) size (b .output) (b .working) (b .signs) h one))
 
 -- ---- the demand
-pub bit-flip-few : FewFlipsReturn bitFlipping anyBits 2 bitFlip
+pub bit-flip-few : FewFlipsReturn bitFlipping Anything 2 bitFlip
 bit-flip-few =
     record {
       unchanged = bit-flip-returns;
@@ -69,7 +69,7 @@ bit-flip-few =
 pub min-sum-few : (top : ℕ) → FewFlipsReturn (minSumming (whole top)) (oneSized top) 1 (minSum (whole top))
 min-sum-few top =
     record {
-      unchanged = min-sum-returns (whole top) (steady top);
+      unchanged = whole-returns top;
       one = λ code b limit frame tc sent h plain e two. soft-one tc sent top (plain .0) (plain .1) b (plain .2) limit h e two;
       two = λ most. absurd (omega arith);
     }

@@ -6,6 +6,7 @@ use Prim.Native.Nat.{ℕ, zero, suc, _%_, _≤_, _<_}
 use native.Mathlib.Omega.{arith}
 use lib.IntN.{pos, negsuc}
 use lib.ListN.{length, getD}
+use Rattle.maths.specs.Tests.{Anything}
 use Rattle.maths.specs.Bits.{bitAt}
 use Rattle.maths.specs.Bytes.{Bytes}
 use Rattle.maths.specs.Distance.{distance}
@@ -18,18 +19,17 @@ use Rattle.report.specs.Report.{ending, Told, told}
 use Rattle.min_sum.specs.Confidence.{i8}
 use Rattle.min_sum.specs.Soft.{below0}
 use Rattle.min_sum.proofs.Conversions.{llrs-hard}
-use Rattle.min_sum.proofs.Success.{steady}
 use Rattle.soft_flip.proofs.Frames.{llrs-one-size}
 use Rattle.agreement.specs.Parties.{Sent, by-copy-encode}
 use Rattle.agreement.specs.Demands.{Sending, Decoder, Receiving, FrameReturns, CountsPasses, DecodesAs, FewFlipsReturn}
-use Rattle.agreement.specs.Ours.{encoding, copyEncoding, bitFlip, bitFlipping, anyBits, minSum, minSumming, oneSized}
+use Rattle.agreement.specs.Ours.{encoding, copyEncoding, bitFlip, bitFlipping, minSum, minSumming, oneSized}
 use Rattle.agreement.specs.Examples.{zeros}
 use Rattle.agreement.specs.Idle.{NoIdleEncoder, rests, fails, decodesAlike, copies, worksOnce, renumbered, NoIdleDecoder, NoIdleCorrector}
 use Rattle.agreement.proofs.Sender.{sent-bytes, sent-length, sent-meets}
 use Rattle.agreement.proofs.Zeros.{zero-frame}
 use Rattle.agreement.proofs.Counting.{counted-one}
 use Rattle.agreement.proofs.BitFlip.{bit-flip-returns, bit-flip-counts, bit-flip-steps}
-use Rattle.agreement.proofs.MinSum.{min-sum-returns, min-sum-counts, min-sum-steps}
+use Rattle.agreement.proofs.MinSum.{whole-returns, min-sum-counts, min-sum-steps}
 use Rattle.agreement.proofs.Passes.{spoilt, hardLent, softLent, spoilt-unmet, flip-misses, flip-moves, soft-accepted, soft-misses, soft-moves}
 
 -- ---- two messages, and their frames
@@ -101,27 +101,28 @@ unfolding rows
 copy-no-idle = no-idle-encoder (record { lend = λ x. record { message = message x; codeword = spoilt }; accepted = λ x. refl; brings = λ x. refl; before = refl })
 
 -- ---- decoders: calls that are accepted with a limit of at most 2, and bring a given word, and what ours does with them
-record Receives {B : Type 0} (calls : Receiving B) (ours : Decoder B) : Type 0 where
+record Receives {B : Type 0} (calls : Receiving B) (plain : B → Type 0) (ours : Decoder B) : Type 0 where
   lend : List ℕ → B
+  is-plain : (s : List ℕ) → plain (lend s)
   accepted : (s : List ℕ) → length s ≡ 16 → (limit : ℕ) → limit ≤ 2 → calls .answer 0 (lend s) limit ≡ 0
   brings : (s : List ℕ) → Bytes s → calls .word (lend s) ≡ s
   before : (s : List ℕ) → calls .output (lend s) ≡ spoilt
   misses : ours 0 (lend spoilt) 1 .report .success ≡ false
   moves : ours 0 (lend spoilt) 1 .output ≡ ours 0 (lend spoilt) 2 .output → ⊥
-  returns : FrameReturns calls ours
+  returns : FrameReturns calls ours plain
   counts : CountsPasses calls ours
   follows : DecodesAs calls ours
 
-module _ {B : Type 0} {calls : Receiving B} {ours : Decoder B} (c : Receives calls ours) where
+module _ {B : Type 0} {calls : Receiving B} {plain : B → Type 0} {ours : Decoder B} (c : Receives calls plain ours) where
   frame-accepted : (x : ℕ) → x < 256 → calls .answer 0 (c .lend (frame x)) 1 ≡ 0
   unfolding rows
   frame-accepted x h = c .accepted (frame x) (sent-length (frame-sent x h)) 1 (omega arith)
 
   -- a frame that comes back
-  returned : (d : Decoder B) → FrameReturns calls d → (x : ℕ) → x < 256 → d 0 (c .lend (frame x)) 1 ≡ told (ending true 0) (frame x)
+  returned : (d : Decoder B) → FrameReturns calls d plain → (x : ℕ) → x < 256 → d 0 (c .lend (frame x)) 1 ≡ told (ending true 0) (frame x)
   returned d r x h =
       let e = c .brings (frame x) (sent-bytes (frame-sent x h)) in
-      r 0 (c .lend (frame x)) 1 (omega arith) (rw e (frame-sent x h)) (frame-accepted x h) (omega arith) ∙ rw e
+      r 0 (c .lend (frame x)) 1 (omega arith) (rw e (frame-sent x h)) (frame-accepted x h) (c .is-plain (frame x)) (omega arith) ∙ rw e
 
   spoilt-accepted : (limit : ℕ) → limit ≤ 2 → calls .answer 0 (c .lend spoilt) limit ≡ 0
   spoilt-accepted = c .accepted spoilt refl
@@ -138,7 +139,7 @@ module _ {B : Type 0} {calls : Receiving B} {ours : Decoder B} (c : Receives cal
   not-still d same e =
       c .moves (ap (λ (x : Told). x .output) (sym (as-ours d same spoilt 1 spoilt-once)) ∙ e ∙ ap (λ (x : Told). x .output) (as-ours d same spoilt 2 (spoilt-accepted 2 (omega arith))))
 
-  no-idle-decoder : NoIdleDecoder calls
+  no-idle-decoder : NoIdleDecoder calls plain
   no-idle-decoder =
       let b = c .lend spoilt in
       record {
@@ -167,7 +168,7 @@ module _ {B : Type 0} {calls : Receiving B} {ours : Decoder B} (c : Receives cal
       }
 
 -- ---- one flipped bit, in calls that bring their bits plain
-module _ {B : Type 0} {calls : Receiving B} {ours : Decoder B} (c : Receives calls ours) (plain : B → Type 0) (is-plain : (s : List ℕ) → plain (c .lend s)) where
+module _ {B : Type 0} {calls : Receiving B} {ours : Decoder B} (c : Receives calls Anything ours) (plain : B → Type 0) (is-plain : (s : List ℕ) → plain (c .lend s)) where
   put-right : (d : Decoder B) → FewFlipsReturn calls plain 1 d → d 0 (c .lend damaged) 2 ≡ told (ending true 1) (frame 0)
   put-right d f =
       let e : distance (frame 0) (calls .word (c .lend damaged)) ≡ 1 = rw (c .brings damaged (bytes-then 0x80 15 (omega arith))) one-flipped in
@@ -192,11 +193,12 @@ module _ {B : Type 0} {calls : Receiving B} {ours : Decoder B} (c : Receives cal
       }
 
 -- of bit flipping and of min-sum
-flip-receives : Receives bitFlipping bitFlip
+flip-receives : Receives bitFlipping Anything bitFlip
 unfolding rows
 flip-receives =
     record {
       lend = hardLent;
+      is-plain = λ s. tt;
       accepted = λ s e limit few. rw e;
       brings = λ s bytes. refl;
       before = λ s. refl;
@@ -207,29 +209,30 @@ flip-receives =
       follows = bit-flip-steps;
     }
 
-soft-receives : Receives (minSumming i8) (minSum i8)
+soft-receives : Receives (minSumming i8) Anything (minSum i8)
 unfolding below0
 soft-receives =
     record {
       lend = softLent;
+      is-plain = λ s. tt;
       accepted = soft-accepted;
       brings = llrs-hard i8 (negsuc 99) (pos 100) refl refl refl;
       before = λ s. refl;
       misses = soft-misses;
       moves = soft-moves;
-      returns = min-sum-returns i8 (steady 127);
+      returns = whole-returns 127;
       counts = min-sum-counts i8;
       follows = min-sum-steps i8;
     }
 
-pub bit-flip-no-idle : NoIdleDecoder bitFlipping
+pub bit-flip-no-idle : NoIdleDecoder bitFlipping Anything
 bit-flip-no-idle = no-idle-decoder flip-receives
 
-pub min-sum-no-idle : NoIdleDecoder (minSumming i8)
+pub min-sum-no-idle : NoIdleDecoder (minSumming i8) Anything
 min-sum-no-idle = no-idle-decoder soft-receives
 
-pub bit-flip-no-idle-corrector : NoIdleCorrector bitFlipping anyBits
-bit-flip-no-idle-corrector = no-idle-corrector flip-receives anyBits (λ s. tt)
+pub bit-flip-no-idle-corrector : NoIdleCorrector bitFlipping Anything
+bit-flip-no-idle-corrector = no-idle-corrector flip-receives Anything (λ s. tt)
 
 pub min-sum-no-idle-corrector : NoIdleCorrector (minSumming i8) (oneSized 127)
 unfolding soft-receives

@@ -1,14 +1,17 @@
--- Min-sum meets the demands on a decoder, on any steady confidences. Assumes nothing.
-use mathlib.Core.Bool.{true, false}
+-- Min-sum meets the demands on a decoder, on any confidences; that it returns an unchanged frame asks that these are steady. Assumes nothing.
+use mathlib.Core.Bool.{Bool, true, false}
 use mathlib.Core.List.{List, _++_, append-nil}
 use mathlib.Core.Path.{_≡_, refl, sym, ap, _∙_}
-use Prim.Native.Nat.{ℕ, _%_}
+use Prim.Native.Nat.{ℕ, _*_, _%_}
 use native.Mathlib.Decide.{ℕ-discrete}
 use native.Mathlib.Omega.{arith}
+use lib.Dec.{eqb}
 use lib.ListN.{length, replicate}
+use Rattle.maths.specs.Tests.{pick, Anything}
 use Rattle.maths.specs.Bits.{bitAt}
 use Rattle.maths.specs.Bytes.{Bytes}
 use Rattle.maths.specs.Budget.{End}
+use Rattle.maths.proofs.Slices.{span-each}
 use Rattle.maths.proofs.Bytes.{length-pack, bytes-pack}
 use Rattle.codes.specs.Codes.{rowOf, checksIn}
 use Rattle.codes.specs.Edges.{edges}
@@ -16,7 +19,7 @@ use Rattle.codes.specs.Equations.{Meets}
 use Rattle.matrices.proofs.Sizes.{tc-bits}
 use Rattle.matrices.proofs.Edges.{meets-same}
 use Rattle.report.specs.Report.{ending, Told}
-use Rattle.min_sum.specs.Confidence.{Confidence, Steady}
+use Rattle.min_sum.specs.Confidence.{Confidence, Steady, Within, whole}
 use Rattle.min_sum.specs.MinSum.{Messages, hardBits, start, pass, met, turn, decoded}
 use Rattle.min_sum.specs.Hard.{toHard, toLlrs}
 use Rattle.min_sum.specs.Outcomes.{Outcome, Written, toLlrsOutcome}
@@ -24,10 +27,10 @@ use Rattle.min_sum.specs.Working.{Lent}
 use Rattle.min_sum.proofs.Answers.{decode-lent, decode-refused}
 use Rattle.min_sum.proofs.Conversions.{llrs-hard}
 use Rattle.codes.proofs.Codes.{roomy}
-use Rattle.min_sum.proofs.Success.{sized-state, accepted-is, says-true, at-once, given-bit}
+use Rattle.min_sum.proofs.Success.{sized-state, accepted-is, says-true, at-once, given-bit, steady}
 use Rattle.agreement.specs.Parties.{toldSoft, ByMinSum}
 use Rattle.agreement.specs.Demands.{DecodesByTable, SuccessMeets, FrameReturns, CountsPasses, DecodesAs}
-use Rattle.agreement.specs.Ours.{Soft, minSum, marginalsIn, minSumming}
+use Rattle.agreement.specs.Ours.{Soft, minSum, marginalsIn, minSumming, inSet}
 use Rattle.agreement.proofs.Sender.{sent-meets}
 use Rattle.agreement.proofs.Counting.{run-counted}
 
@@ -92,15 +95,19 @@ module _ {C : Type 0} (o : Confidence C) where
       let h = min-sum-accepted code b limit e in
       says-true o code (b .llrs) (b .output) (b .working) (b .signs) limit h (omega (arith, min-sum-counts code b limit h .within e)) .0 e
 
-  pub min-sum-returns : Steady o → FrameReturns (minSumming o) (minSum o)
-  min-sum-returns st code b limit tc sent h k =
+  pub min-sum-returns : {In : C → Type 0} → Steady o In → FrameReturns (minSumming o) (minSum o) (inSet o In)
+  min-sum-returns st code b limit tc sent h within k =
       let none : rowOf code .«punctured_bits» ≡ 0 = omega (arith, tc-bits code tc) in
       let given : b .llrs ++ replicate (rowOf code .«punctured_bits») (o .zero) ≡ b .llrs = rw none (append-nil (b .llrs)) in
       let bits = given-bit o code (b .llrs) (b .output) (b .working) (b .signs) limit h in
       let good : Meets code (hardBits o (b .llrs)) =
       meets-same code (omega arith) (bitAt (toHard o (b .llrs))) (hardBits o (b .llrs)) (λ v l. ap (λ (x : ℕ). x % 2) ((rw given at bits) v l)) (sent-meets sent tc) in
-      let e = at-once o code (b .llrs) (b .output) (b .working) (b .signs) limit h st k (rw given good) in
+      let e = at-once o code (b .llrs) (b .output) (b .working) (b .signs) limit h st within k (rw given good) in
       ap toldSoft e ∙ rw given
+
+-- whole numbers are steady: of every call
+pub whole-returns : (top : ℕ) → FrameReturns (minSumming (whole top)) (minSum (whole top)) Anything
+whole-returns top code b limit tc sent h any = min-sum-returns (whole top) (steady top) code b limit tc sent h (λ i. tt)
 
 -- ---- an accepted call: what it was lent, and what it told
 module _ {C : Type 0} {o : Confidence C} {minus plus : C} {code : ℕ} {received : List ℕ} {limit : ℕ} {x : Told} (c : ByMinSum o minus plus code received limit x) where
@@ -113,12 +120,20 @@ module _ {C : Type 0} {o : Confidence C} {minus plus : C} {code : ℕ} {received
   pub summing-told : x ≡ minSum o code summing-lent limit
   summing-told = ap toldSoft (c .promise)
 
-  -- the LLRs that it was fed with, and their hard bits
+  -- the LLRs that it was fed with: they are in the set of minus and plus, and their hard bits are what was received
   pub summing-llrs : c .llrs ≡ toLlrs minus plus received
   unfolding toLlrsOutcome
   summing-llrs =
       let t = sym (ap (λ (y : Written C). y .answer) (c .converted)) ∙ c .answered in
       ap (λ (y : Written C). y .buffer) (c .converted) ∙ rw t
+
+  pub summing-in : {In : C → Type 0} → Steady o In → In minus → In plus → Within o In (c .llrs)
+  unfolding toLlrs
+  summing-in {In} st m p = rw summing-llrs (span-each In _ (o .zero) (8 * length received) (λ v. in-set (eqb (bitAt received v) 1)) (st .zero-in))
+    where
+      in-set : (b : Bool) → In (pick b minus plus)
+      in-set true = m
+      in-set false = p
 
   pub summing-hard : o .hard minus ≡ true → o .hard plus ≡ false → o .hard (o .zero) ≡ false → toHard o (c .llrs) ≡ received
   summing-hard m p z = rw summing-llrs (llrs-hard o minus plus m p z received (c .bytes))

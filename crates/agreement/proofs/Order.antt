@@ -56,7 +56,7 @@ unfolding restarted
 back-first =
     fun-ext (λ v. ap (λ (xs : _). hardBits i8 xs v) (back-marginals begun)
     ∙ ap (λ (b : Bool). pick b 1 0)
-    (quiet-added i8 (steady 127) (reverse (numbered 0 (edges 0))) (restarted i8 llrs 0 begun) (start-quiet i8 (edges 0) 64 0 llrs) v)
+    (quiet-added i8 (steady 127) (reverse (numbered 0 (edges 0))) (restarted i8 llrs 0 begun) (start-quiet i8 (edges 0) 64 0 llrs) (λ i. tt) v)
     ∙ given-bits v)
 
 -- the second another bit 9

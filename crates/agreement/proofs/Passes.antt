@@ -209,7 +209,7 @@ unfolding below0
 given-bits v = ap (λ (xs : List ℤ). soft.hardBits i8 xs v) (append-nil llrs) ∙ llrs-bits i8 (negsuc 99) (pos 100) refl refl refl spoilt v
 
 pub first-bits : soft.hardBits i8 (next begun .marginals) ≡ bitAt spoilt
-first-bits = fun-ext (λ v. ap (λ (b : Bool). pick b 1 0) (first-hard i8 (steady 127) (edges 0) 64 0 llrs v) ∙ given-bits v)
+first-bits = fun-ext (λ v. ap (λ (b : Bool). pick b 1 0) (first-hard i8 (steady 127) (edges 0) 64 0 llrs (λ i. tt) v) ∙ given-bits v)
 
 second-bit : soft.hardBits i8 (next (next begun) .marginals) 0 ≡ 0
 unfolding rows tables prototypes thetas phis blockOf cellBlocks rowBlocks lastRows flatMap blocksOf edges blockEdges edgeAt span fold clamp satAdd satSub negated size below0 alike lower soft.numbered soft.addMessage soft.takeMessage soft.restarted soft.renewed soft.start soft.pass toLlrs

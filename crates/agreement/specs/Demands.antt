@@ -3,6 +3,7 @@ use mathlib.Core.Bool.{true, false}
 use mathlib.Core.List.{List}
 use mathlib.Core.Path.{_≡_}
 use Prim.Native.Nat.{ℕ, _≤_, _<_}
+use Rattle.maths.specs.Tests.{Anything}
 use Rattle.maths.specs.Bits.{bitAt}
 use Rattle.maths.specs.Distance.{distance}
 use Rattle.codes.specs.Codes.{TC, TM, rowOf}
@@ -69,9 +70,10 @@ module _ {B : Type 0} (calls : Receiving B) (d : Decoder B) where
   abbrev pub SuccessMeets : Type 0
   SuccessMeets = (code : ℕ) (b : B) (limit : ℕ) → d code b limit .report .success ≡ true → Meets code (bitAt (d code b limit .output))
 
-  -- demand 3: a frame of a TC code that comes unchanged, with a limit of at least 1, comes back the same with success at iteration 0
-  abbrev pub FrameReturns : Type 0
-  FrameReturns = (code : ℕ) (b : B) (limit : ℕ) → TC code → Sent code (calls .word b) → calls .answer code b limit ≡ 0 → 1 ≤ limit
+  -- demand 3: a frame of a TC code that comes unchanged, with a limit of at least 1, comes back the same with success at iteration 0.
+  -- `plain` are the calls of which this is asked
+  abbrev pub FrameReturns : (B → Type 0) → Type 0
+  FrameReturns plain = (code : ℕ) (b : B) (limit : ℕ) → TC code → Sent code (calls .word b) → calls .answer code b limit ≡ 0 → plain b → 1 ≤ limit
       → d code b limit ≡ told (ending true 0) (calls .word b)
 
   -- request T-10: a frame of a TM code that comes unchanged, with a limit of at least 1, comes back completed, with success at iteration 0
@@ -88,9 +90,9 @@ module _ {B : Type 0} (calls : Receiving B) (d : Decoder B) where
   DecodesAs = (code : ℕ) (b : B) (limit : ℕ) → calls .answer code b limit ≡ 0 → d code b limit ≡ calls .steps code b limit
 
 -- request T-11, and beyond it what the tables give: a frame of a TC code comes back though one of its bits, or two where `most` is two, were flipped
--- on the way. `plain` are the calls of which this is asked
+-- on the way. `plain` are the calls of which this is asked, besides an unchanged frame
 pub record FewFlipsReturn {B : Type 0} (calls : Receiving B) (plain : B → Type 0) (most : ℕ) (d : Decoder B) : Type 0 where
-  pub unchanged : FrameReturns calls d
+  pub unchanged : FrameReturns calls d Anything
   -- "the limit is 2 or more .. return the sent frame with (true, 1)"
   pub one : (code : ℕ) (b : B) (limit : ℕ) (frame : List ℕ) → TC code → Sent code frame → calls .answer code b limit ≡ 0 → plain b
       → distance frame (calls .word b) ≡ 1 → 2 ≤ limit → d code b limit ≡ told (ending true 1) frame

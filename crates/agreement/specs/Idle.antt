@@ -78,18 +78,18 @@ pub record NoIdleEncoder {B : Type 0} (calls : Sending B) : Type 0 where
   pub resting : (answers : ℕ → B → ℕ) → EncodesData calls (restsEncoding calls answers) → ⊥
   pub resting-frame : (answers : ℕ → B → ℕ) → FrameMeets calls (restsEncoding calls answers) → ⊥
 
--- ---- no idle decoder, of those that are called so, meets the demands
-pub record NoIdleDecoder {B : Type 0} (calls : Receiving B) : Type 0 where
+-- ---- no idle decoder, of those that are called so, meets the demands. `plain` are the calls of which an unchanged frame is asked
+pub record NoIdleDecoder {B : Type 0} (calls : Receiving B) (plain : B → Type 0) : Type 0 where
   -- "Always refusing, or always saying false: the refusal table and demand 3's unchanged frame shut them out."
   pub refusing : (number : ℕ → B → ℕ → ℕ) → ((code : ℕ) (b : B) (limit : ℕ) → 1 ≤ number code b limit) → DecodesByTable calls (refuses calls number) → ⊥
-  pub failing : (d : Decoder B) → FrameReturns calls (fails d) → ⊥
+  pub failing : (d : Decoder B) → FrameReturns calls (fails d) plain → ⊥
   -- "One fixed answer": two frames come back, each as it was
-  pub one-answer : (x : Told) → FrameReturns calls (decodesAlike x) → ⊥
+  pub one-answer : (x : Told) → FrameReturns calls (decodesAlike x) plain → ⊥
   -- "Doing nothing, or copying input to output with true: demand 3, since a success meets every equation."
   pub resting : (says : Reports B) → SaysTrue calls says → SuccessMeets calls (rests calls says) → ⊥
   pub copying : (says : Reports B) → SaysTrue calls says → SuccessMeets calls (copies calls says) → ⊥
   -- doing nothing, whatever it says: an unchanged frame comes back
-  pub resting-frame : (says : Reports B) → FrameReturns calls (rests calls says) → ⊥
+  pub resting-frame : (says : Reports B) → FrameReturns calls (rests calls says) plain → ⊥
   -- copying input to output, whatever it says: the output is that of the steps
   pub copying-output : (says : Reports B) → DecodesAs calls (copies calls says) → ⊥
   -- "All the work in pass 0, later passes for show: demand 2 fixes the output for each limit."

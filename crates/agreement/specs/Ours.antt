@@ -1,8 +1,6 @@
 -- The library's encoders and decoders, by their promises, as the demands take them. Assumes nothing.
-use mathlib.Core.Bool.{true}
 use mathlib.Core.List.{List}
 use Prim.Native.Nat.{ℕ, suc, _/_, _≤_}
-use lib.Dec.{T}
 use lib.IntN.{ℤ}
 use lib.ListN.{length, take}
 use Rattle.maths.specs.Budget.{iterated}
@@ -15,7 +13,7 @@ use Rattle.encoder.specs.Outcomes.{encodeTests, copyTests, encodeOutcome, copyE
 use Rattle.bit_flip.specs.Flip.{flipped}
 use Rattle.bit_flip.specs.Erasures.{erasurePasses}
 use Rattle.bit_flip.specs.Outcome.{received, punctured, decoded, tests, outcome}
-use Rattle.min_sum.specs.Confidence.{Confidence}
+use Rattle.min_sum.specs.Confidence.{Confidence, Within}
 use Rattle.min_sum.specs.MinSum.{hardBits, start, pass}
 use Rattle.min_sum.specs.MinSum as soft
 use Rattle.min_sum.specs.Hard.{toHard}
@@ -76,10 +74,6 @@ bitFlipping =
       steps = λ code b limit. toldFlip (decoded code (b .input) limit);
     }
 
--- hard bits have no confidences: any call will do
-abbrev pub anyBits : Hard → Type 0
-anyBits b = T true
-
 -- ---- min-sum is lent the LLRs, whose hard bits are the word, the output and two working buffers
 pub record Soft (C : Type 0) : Type 0 where
   pub llrs : List C
@@ -109,6 +103,10 @@ module _ {C : Type 0} (o : Confidence C) where
         steps = λ code b limit. let e = soft.decoded o code (b .llrs) limit in told (ending (e .success) (e .turns)) (toHard o (e .state .marginals));
       }
 
--- the LLRs are all of one size, up to the largest number
+-- the LLRs are all in a set of values
+abbrev pub inSet : {C : Type 0} → Confidence C → (C → Type 0) → Soft C → Type 0
+inSet o In b = Within o In (b .llrs)
+
+-- they are all of one size, up to the largest number
 abbrev pub oneSized : ℕ → Soft ℤ → Type 0
 oneSized top b = (k : ℕ) × (suc k ≤ top) × OneSize k (b .llrs)

@@ -18,6 +18,14 @@ use Rattle.maths.proofs.Lists.{span-split, span-length, getD-span, map-
 pub span-get : {A : Type 0} (f : ℕ → A) (d : A) (n i : ℕ) → i < n → getD (span f 0 n) i d ≡ f i
 span-get f d n i h = getD-span f 0 n i d h ∙ rw zero-add
 
+-- what holds of each f i and of d holds of all that is read of it, past its end too
+pub span-each : {A : Type 0} (P : A → Type 0) (f : ℕ → A) (d : A) (n : ℕ) → ((i : ℕ) → P (f i)) → P d → (i : ℕ) → P (getD (span f 0 n) i d)
+span-each P f d n each past i = by (decLt i n)
+  where
+    by : Dec (i < n) → P (getD (span f 0 n) i d)
+    by (yes h) = rw (span-get f d n i h) (each i)
+    by (no h) = let l : length (span f 0 n) ≤ i = rw (span-length f 0 n) (omega arith) in rw (List·getD-eq-default (span f 0 n) d l) past
+
 -- and past its end, where f is 0
 pub span-whole : (f : ℕ → ℕ) (n : ℕ) → ((v : ℕ) → n ≤ v → f v ≡ 0) → (λ v. getD (span f 0 n) v 0) ≡ f
 span-whole f n past = fun-ext (λ v. at v (decLt v n))
@@ -59,6 +67,11 @@ pub replicate-at : {A : Type 0} (n : ℕ) (x : A) (i : ℕ) → getD (replicate 
 replicate-at zero x i = refl
 replicate-at (suc n) x zero = refl
 replicate-at (suc n) x (suc i) = replicate-at n x i
+
+pub padded-at : {A : Type 0} (xs : List A) (n : ℕ) (x : A) (i : ℕ) → getD (xs ++ replicate n x) i x ≡ getD xs i x
+padded-at [] n x i = replicate-at n x i
+padded-at (y ∷ xs) n x zero = refl
+padded-at (y ∷ xs) n x (suc i) = padded-at xs n x i
 
 -- what is lent from its front
 pub replicate-front : {A : Type 0} (k : ℕ) (x : A) (n : ℕ) → n ≤ k → take n (replicate k x) ≡ replicate n x

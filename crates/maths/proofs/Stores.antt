@@ -8,14 +8,14 @@ use native.Mathlib.Omega.{arith}
 use lib.ListN.{length, getD, set, drop, replicate, length-replicate}
 use lib.Seq.{sets, sets-eq, getD-set-same, getD-set-other, set-out}
 
--- by an element that f takes for the one before: f sees no change
-pub set-under : {A B : Type 0} (f : A → B) (xs : List A) (i j : ℕ) (x d : A) → f x ≡ f (getD xs i d) → f (getD (set xs i x) j d) ≡ f (getD xs j d)
-set-under f xs i j x d e = by (ℕ-discrete j i) (decLt i (length xs))
+-- by an element of which P holds at its place: what held of each by its place holds still
+pub set-each : {A : Type 0} (P : ℕ → A → Type 0) (xs : List A) (i : ℕ) (x d : A) → P i x → ((j : ℕ) → P j (getD xs j d)) → (j : ℕ) → P j (getD (set xs i x) j d)
+set-each P xs i x d new old j = by (ℕ-discrete j i) (decLt i (length xs))
   where
-    by : Dec (j ≡ i) → Dec (i < length xs) → f (getD (set xs i x) j d) ≡ f (getD xs j d)
-    by (yes p) (yes l) = rw (p, getD-set-same xs i x d l) e
-    by (yes p) (no l) = let h : length xs ≤ i = omega arith in rw (set-out xs i x h)
-    by (no p) l = ap f (getD-set-other xs i j x d p)
+    by : Dec (j ≡ i) → Dec (i < length xs) → P j (getD (set xs i x) j d)
+    by (yes p) (yes l) = rw (p, getD-set-same xs i x d l) new
+    by (yes p) (no l) = let h : length xs ≤ i = omega arith in rw (set-out xs i x h) (old j)
+    by (no p) l = rw (getD-set-other xs i j x d p) (old j)
 
 module _ {A : Type 0} where
   -- by two lists, one after the other

@@ -2,6 +2,7 @@
 use mathlib.Core.Bool.{Bool, true, false}
 use mathlib.Core.List.{List, [], _∷_}
 use Prim.Native.Nat.{ℕ, zero, suc}
+use lib.Dec.{T}
 
 -- the one of two that a test picks
 abbrev pub pick {ℓ} : {A : Type ℓ} → Bool → A → A → A
@@ -11,6 +12,10 @@ pick false a b = b
 abbrev pub both : Bool → Bool → Bool
 both true b = b
 both false b = false
+
+-- what holds of whatever is asked about
+abbrev pub Anything : {A : Type 0} → A → Type 0
+Anything x = T true
 
 -- the test holds of every element
 abbrev pub all : {A : Type 0} → (A → Bool) → List A → Bool

@@ -14,7 +14,7 @@ use lib.Seq.{getD-set-same, getD-set-other}
 use Rattle.maths.specs.Tests.{pick, all}
 use Rattle.maths.specs.Lists.{fold}
 use Rattle.maths.specs.Sums.{sumL}
-use Rattle.maths.proofs.Stores.{set-under}
+use Rattle.maths.proofs.Stores.{set-each}
 use Rattle.codes.specs.Edges.{Edge, inRange}
 use Rattle.codes.specs.Equations.{bitsOf, par}
 use Rattle.matrices.proofs.Edges.{ranged-first}
@@ -65,12 +65,11 @@ module _ (top k : ℕ) (fits : suc k ≤ top) where
         let z = q .quiet in
         let x = newU o (at o (s .v) (e .number)) (at o (s .first) (e .check)) (at o (s .second) (e .check)) (getD (s .negative) (e .check) false) in
         let ex : x ≡ pos 0 = quiet-u o (steady top) (z .v (e .number)) (z .first (e .check)) (z .second (e .check)) (z .negative (e .check)) in
-        let em : satAdd top (at o (s .marginals) (e .bit)) x ≡ at o (s .marginals) (e .bit) =
-        ap (satAdd top (at o (s .marginals) (e .bit))) ex ∙ rw (q .marginals (e .bit)) (same (e .bit)) in
+        let em : satAdd top (at o (s .marginals) (e .bit)) x ≡ given (e .bit) = rw (ex, q .marginals (e .bit)) (same (e .bit)) in
         record {
           quiet = record { v = z .v; first = z .first; second = z .second; negative = z .negative };
-          u = λ i. set-under (λ y. y) (s .u) (e .number) i x (pos 0) (ex ∙ sym (q .u (e .number))) ∙ q .u i;
-          marginals = λ i. set-under (λ y. y) (s .marginals) (e .bit) i (satAdd top (at o (s .marginals) (e .bit)) x) (pos 0) em ∙ q .marginals i;
+          u = set-each (λ i y. y ≡ pos 0) (s .u) (e .number) x (pos 0) ex (q .u);
+          marginals = set-each (λ i y. y ≡ given i) (s .marginals) (e .bit) (satAdd top (at o (s .marginals) (e .bit)) x) (pos 0) em (q .marginals);
         }
 
     pub still-added : (ls : List Link) (s : Messages ℤ) → Still given s → Still given (fold (addMessage o) ls s)

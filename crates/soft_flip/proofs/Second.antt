@@ -179,4 +179,4 @@ module _ (top k : ℕ) (fits : suc k ≤ top) where
 pub first-bits : (top : ℕ) (es : List Edge) (m : ℕ) (llrs : List ℤ) (i : ℕ)
     → hardBits (whole top) (pass (whole top) es m 0 llrs (start (whole top) es m 0 llrs) .marginals) i ≡ hardBits (whole top) llrs i
 first-bits top es m llrs i =
-    ap (λ (b : Bool). pick b 1 0) (first-hard (whole top) (steady top) es m 0 llrs i) ∙ ap (λ (xs : List ℤ). hardBits (whole top) xs i) (append-nil llrs)
+    ap (λ (b : Bool). pick b 1 0) (first-hard (whole top) (steady top) es m 0 llrs (λ j. tt) i) ∙ ap (λ (xs : List ℤ). hardBits (whole top) xs i) (append-nil llrs)
