@@ -24,12 +24,12 @@ use Rattle.telemetry.specs.Completion.{completionBytes, Completes}
 use Rattle.telemetry.proofs.Clean.{unchanged}
 use Rattle.agreement.specs.Parties.{Sent, toldFlip, ByFlipping}
 use Rattle.agreement.specs.Demands.{DecodesByTable, SuccessMeets, FrameReturns, FrameCompletes, CountsPasses, DecodesAs}
-use Rattle.agreement.specs.Ours.{Hard, bitFlip, flippedIn, bitFlipping}
+use Rattle.agreement.specs.Ours.{HardBuffers, bitFlip, flippedIn, bitFlipping}
 use Rattle.agreement.proofs.Sender.{of-message, sent-bytes, sent-meets, sent-completes}
 use Rattle.agreement.proofs.Counting.{run-counted}
 
 -- a call is accepted, or refused by a number
-module _ (code : ℕ) (b : Hard) (limit : ℕ) where
+module _ (code : ℕ) (b : HardBuffers) (limit : ℕ) where
   accepted-is : bitFlipping .answer code b limit ≡ 0 → outcome code (b .input) (b .output) (b .working) limit ≡ decoded code (b .input) limit
   accepted-is h = is-accepted code (b .input) (b .output) (b .working) limit h
 
@@ -72,7 +72,7 @@ bit-flip-returns code b limit tc sent h any k =
     ap toldFlip (clean code (b .input) (b .output) (b .working) limit tc h (sent-bytes sent) (sent-meets sent tc) k)
 
 -- what an accepted call leaves of a sent TM frame: the frame completed
-pub bit-flip-telemetry : (code : ℕ) (b : Hard) (limit : ℕ) → TM code → Sent code (b .input) → bitFlipping .answer code b limit ≡ 0 → 1 ≤ limit
+pub bit-flip-telemetry : (code : ℕ) (b : HardBuffers) (limit : ℕ) → TM code → Sent code (b .input) → bitFlipping .answer code b limit ≡ 0 → 1 ≤ limit
     → bitFlip code b limit ≡ told (ending true 0) (completionBytes code (b .input))
 bit-flip-telemetry code b limit tm sent h k =
     ap toldFlip
@@ -87,7 +87,7 @@ bit-flip-completes code b limit tm sent h k =
 
 -- ---- an accepted call: what it was lent, and what it told
 module _ {code : ℕ} {received : List ℕ} {limit : ℕ} {x : Told} (c : ByFlipping code received limit x) where
-  abbrev pub flipping-lent : Hard
+  abbrev pub flipping-lent : HardBuffers
   flipping-lent = record { input = received; output = c .old; working = c .working }
 
   pub flipping-accepted : bitFlipping .answer code flipping-lent limit ≡ 0

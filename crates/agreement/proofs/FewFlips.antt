@@ -18,14 +18,14 @@ use Rattle.soft_flip.specs.OneSize.{OneSize}
 use Rattle.soft_flip.proofs.Frames as softly
 use Rattle.agreement.specs.Parties.{Sent, toldFlip, toldSoft}
 use Rattle.agreement.specs.Demands.{FewFlipsReturn}
-use Rattle.agreement.specs.Ours.{Hard, bitFlip, bitFlipping, Soft, minSum, minSumming, oneSized}
+use Rattle.agreement.specs.Ours.{HardBuffers, bitFlip, bitFlipping, SoftBuffers, minSum, minSumming, oneSized}
 use Rattle.agreement.proofs.Sender.{sent-bytes, sent-length, sent-meets}
 use Rattle.agreement.proofs.BitFlip.{bit-flip-returns}
 use Rattle.agreement.proofs.MinSum.{whole-returns}
 
 module _ {code : ℕ} (tc : TC code) {frame : List ℕ} (sent : Sent code frame) where
   -- ---- bit flipping
-  module _ (b : Hard) (limit : ℕ) (h : bitFlipping .answer code b limit ≡ 0) where
+  module _ (b : HardBuffers) (limit : ℕ) (h : bitFlipping .answer code b limit ≡ 0) where
     pub flip-one : distance frame (b .input) ≡ 1 → 2 ≤ limit → bitFlip code b limit ≡ told (ending true 1) frame
     flip-one one k =
         ap toldFlip
@@ -43,7 +43,7 @@ module _ {code : ℕ} (tc : TC code) {frame : List ℕ} (sent : Sent code frame)
         (x, y, k, is, taken, ap toldFlip e)
 
   -- ---- min-sum, on whole numbers up to any largest
-  module _ (top k : ℕ) (fits : suc k ≤ top) (b : Soft ℤ) (size : OneSize k (b .llrs)) (limit : ℕ) (h : minSumming (whole top) .answer code b limit ≡ 0)
+  module _ (top k : ℕ) (fits : suc k ≤ top) (b : SoftBuffers ℤ) (size : OneSize k (b .llrs)) (limit : ℕ) (h : minSumming (whole top) .answer code b limit ≡ 0)
       (one : distance frame (toHard (whole top) (b .llrs)) ≡ 1) where
     pub soft-one : 2 ≤ limit → minSum (whole top) code b limit ≡ told (ending true 1) frame
     soft-one two =

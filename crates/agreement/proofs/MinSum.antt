@@ -30,7 +30,7 @@ use Rattle.codes.proofs.Codes.{roomy}
 use Rattle.min_sum.proofs.Success.{sized-state, accepted-is, says-true, at-once, given-bit, steady}
 use Rattle.agreement.specs.Parties.{toldSoft, ByMinSum}
 use Rattle.agreement.specs.Demands.{DecodesByTable, SuccessMeets, FrameReturns, CountsPasses, DecodesAs}
-use Rattle.agreement.specs.Ours.{Soft, minSum, marginalsIn, minSumming, inSet}
+use Rattle.agreement.specs.Ours.{SoftBuffers, minSum, marginalsIn, minSumming, inSet}
 use Rattle.agreement.proofs.Sender.{sent-meets}
 use Rattle.agreement.proofs.Counting.{run-counted}
 
@@ -42,7 +42,7 @@ module _ {C : Type 0} (o : Confidence C) where
       by (yes h) = ap (λ (x : Outcome C). x .report .answer) (accepted-is o code (b .llrs) (b .output) (b .working) (b .signs) limit h) ∙ sym h
       by (no h) = ap (λ (x : Outcome C). x .report .answer) (sym (decode-refused o code (b .llrs) (b .output) (b .working) (b .signs) limit refl h))
 
-  module _ (code : ℕ) (b : Soft C) (limit : ℕ) where
+  module _ (code : ℕ) (b : SoftBuffers C) (limit : ℕ) where
     -- the run of an accepted call
     abbrev ran : ℕ → End (Messages C)
     ran = decoded o code (b .llrs)
@@ -80,7 +80,7 @@ module _ {C : Type 0} (o : Confidence C) where
       ap toldSoft (accepted-is o code (b .llrs) (b .output) (b .working) (b .signs) limit h)
 
   -- a success was accepted
-  pub min-sum-accepted : (code : ℕ) (b : Soft C) (limit : ℕ) → minSum o code b limit .report .success ≡ true → minSumming o .answer code b limit ≡ 0
+  pub min-sum-accepted : (code : ℕ) (b : SoftBuffers C) (limit : ℕ) → minSum o code b limit .report .success ≡ true → minSumming o .answer code b limit ≡ 0
   min-sum-accepted code b limit e = by (ℕ-discrete (minSumming o .answer code b limit) 0)
     where
       by : Dec (minSumming o .answer code b limit ≡ 0) → minSumming o .answer code b limit ≡ 0
@@ -111,7 +111,7 @@ whole-returns top code b limit tc sent h any = min-sum-returns (whole top) (stea
 
 -- ---- an accepted call: what it was lent, and what it told
 module _ {C : Type 0} {o : Confidence C} {minus plus : C} {code : ℕ} {received : List ℕ} {limit : ℕ} {x : Told} (c : ByMinSum o minus plus code received limit x) where
-  abbrev pub summing-lent : Soft C
+  abbrev pub summing-lent : SoftBuffers C
   summing-lent = record { llrs = c .llrs; output = c .old; working = c .working; signs = c .signs }
 
   pub summing-accepted : minSumming o .answer code summing-lent limit ≡ 0

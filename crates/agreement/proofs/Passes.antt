@@ -44,7 +44,7 @@ use Rattle.min_sum.proofs.Marginals.{pass-length, first-hard}
 use Rattle.min_sum.proofs.Packed.{hard-bit}
 use Rattle.min_sum.proofs.Success.{accepted-is, steady}
 use Rattle.agreement.specs.Parties.{toldSoft}
-use Rattle.agreement.specs.Ours.{Hard, bitFlip, Soft, minSum, minSumming}
+use Rattle.agreement.specs.Ours.{HardBuffers, bitFlip, SoftBuffers, minSum, minSumming}
 use Rattle.agreement.specs.Examples.{zeros}
 
 -- the word: eight ones, then zeros
@@ -52,10 +52,10 @@ abbrev pub spoilt : List ℕ
 spoilt = 0xff ∷ zeros 15
 
 -- the buffers of a call on TC128 that brings the bytes s, with that word in the output before
-abbrev pub hardLent : List ℕ → Hard
+abbrev pub hardLent : List ℕ → HardBuffers
 hardLent s = record { input = s; output = spoilt; working = zeros 128 }
 
-abbrev pub softLent : List ℕ → Soft ℤ
+abbrev pub softLent : List ℕ → SoftBuffers ℤ
 softLent s = record { llrs = toLlrs (negsuc 99) (pos 100) s; output = spoilt; working = replicate 1280 (pos 0); signs = zeros 8 }
 
 -- ---- a check whose sum is odd does not hold
@@ -216,16 +216,16 @@ unfolding rows tables prototypes thetas phis blockOf cellBlocks rowBlocks lastRo
 second-bit = refl
 
 -- a run of passes, whichever they are, whose first leaves the bits of the word
-module _ (pass : soft.Messages ℤ → soft.Messages ℤ) (first : soft.hardBits i8 (pass begun .marginals) ≡ bitAt spoilt) where
-  abbrev passTurn : soft.Messages ℤ → Turn (soft.Messages ℤ)
-  passTurn s = pick (soft.met i8 (edges 0) 64 0 llrs (pass s)) (stop (pass s)) (go (pass s))
+module _ (step : soft.Messages ℤ → soft.Messages ℤ) (first : soft.hardBits i8 (step begun .marginals) ≡ bitAt spoilt) where
+  abbrev stepTurn : soft.Messages ℤ → Turn (soft.Messages ℤ)
+  stepTurn s = pick (soft.met i8 (edges 0) 64 0 llrs (step s)) (stop (step s)) (go (step s))
 
-  goes-on : passTurn begun ≡ go (pass begun)
+  goes-on : stepTurn begun ≡ go (step begun)
   unfolding soft.met rows
   goes-on = rw (first, unmet-false (edges 0) 64 (bitAt spoilt) spoilt-unmet)
 
-  pub two-passes : run passTurn 2 0 begun .state ≡ pass (pass begun)
-  two-passes = run-twice passTurn goes-on (soft.met i8 (edges 0) 64 0 llrs (pass (pass begun))) refl
+  pub two-passes : run stepTurn 2 0 begun .state ≡ step (step begun)
+  two-passes = run-twice stepTurn goes-on (soft.met i8 (edges 0) 64 0 llrs (step (step begun))) refl
 
 soft-goes : soft.turn i8 (edges 0) 64 0 llrs begun ≡ go (next begun)
 unfolding soft.turn

@@ -12,7 +12,7 @@ use Rattle.report.specs.Report.{ending, Told, told}
 use Rattle.bit_flip.specs.Outcome as flip
 use Rattle.min_sum.specs.Outcomes as soft
 use Rattle.agreement.specs.Parties.{Answered, by-bit-flipping, by-min-sum, Success, Returned}
-use Rattle.agreement.specs.Ours.{Hard, Soft}
+use Rattle.agreement.specs.Ours.{HardBuffers, SoftBuffers}
 use Rattle.agreement.proofs.BitFlip.{bit-flip-meets, bit-flip-accepted, bit-flip-bytes, bit-flip-length}
 use Rattle.agreement.proofs.MinSum.{min-sum-meets, min-sum-accepted, min-sum-bytes, min-sum-length}
 
@@ -27,13 +27,13 @@ succeeded {code} {word} s = by (s .answered)
   where
     by : Answered code (told (s .report) word) → Succeeded code word
     by (by-bit-flipping input old working working′ limit e) =
-        let b : Hard = record { input = input; output = old; working = working } in
+        let b : HardBuffers = record { input = input; output = old; working = working } in
         let y = sym (ap (λ (x : flip.Outcome). x .report .success) e) ∙ s .said in
         let h = bit-flip-accepted code b limit y in
         rw (ap (λ (x : flip.Outcome). x .output) e)
         (record { meets = bit-flip-meets code b limit y; bytes = bit-flip-bytes code b limit h; long = bit-flip-length code b limit h })
     by (by-min-sum {C} o llrs working working′ old signs signs′ limit e) =
-        let b : Soft C = record { llrs = llrs; output = old; working = working; signs = signs } in
+        let b : SoftBuffers C = record { llrs = llrs; output = old; working = working; signs = signs } in
         let y = sym (ap (λ (x : soft.Outcome C). x .report .success) e) ∙ s .said in
         let h = min-sum-accepted o code b limit y in
         rw (ap (λ (x : soft.Outcome C). x .output) e)

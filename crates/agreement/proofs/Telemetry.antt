@@ -17,7 +17,7 @@ use Rattle.telemetry.proofs.Clean.{completes-once, completes-front}
 use Rattle.tm_distance.proofs.Frames.{frame-four, near-completes}
 use Rattle.agreement.specs.Parties.{Sent, by-copy-encode, Success}
 use Rattle.agreement.specs.Demands.{Decoder, FrameCompletes}
-use Rattle.agreement.specs.Ours.{Hard, bitFlipping}
+use Rattle.agreement.specs.Ours.{HardBuffers, bitFlipping}
 use Rattle.agreement.specs.Examples.{zeros}
 use Rattle.agreement.specs.Demand3.{Telemetry}
 use Rattle.agreement.specs.Idle.{fails, rests, decodesAlike, copies, NoIdleCompleter}
@@ -63,7 +63,7 @@ message x = x ∷ zeros 127
 abbrev frameBy : ℕ → List ℕ
 frameBy x = encodedBytes 3 (message x)
 
-abbrev lent : ℕ → Hard
+abbrev lent : ℕ → HardBuffers
 lent x = record { input = frameBy x; output = 0xff ∷ zeros 175; working = zeros 1408 }
 
 frame-sent : (x : ℕ) → x < 256 → Sent 3 (frameBy x)
@@ -78,7 +78,7 @@ lent-accepted : (x : ℕ) → x < 256 → bitFlipping .answer 3 (lent x) 1 ≡ 0
 unfolding rows
 lent-accepted x h = rw (frame-long x h)
 
-module _ (d : Decoder Hard) (r : FrameCompletes bitFlipping d) (x : ℕ) (h : x < 256) where
+module _ (d : Decoder HardBuffers) (r : FrameCompletes bitFlipping d) (x : ℕ) (h : x < 256) where
   -- what such a decoder leaves of a frame
   completed : (d 3 (lent x) 1 .report ≡ ending true 0) × Completes 3 (frameBy x) (d 3 (lent x) 1 .output)
   completed = r 3 (lent x) 1 (omega arith, omega arith) (frame-sent x h) (lent-accepted x h) (omega arith)

@@ -17,7 +17,7 @@ use Rattle.min_sum.specs.MinSum.{Messages, numbered, addMessage, takeMessage, r
 use Rattle.min_sum.specs.Hard.{toHard}
 use Rattle.agreement.specs.Parties.{Sent}
 use Rattle.agreement.specs.Demands.{Encoder, Sending, EncodesByTable, EncodesData, FrameMeets, Decoder, Receiving, DecodesByTable, SuccessMeets, FrameReturns, FrameCompletes, CountsPasses, DecodesAs, FewFlipsReturn}
-use Rattle.agreement.specs.Ours.{Soft}
+use Rattle.agreement.specs.Ours.{SoftBuffers}
 
 -- what a decoder says, by code, the buffers that it is lent and the limit
 abbrev pub Reports : Type 0 → Type 0
@@ -136,7 +136,7 @@ module _ {C : Type 0} (o : Confidence C) (es : List Edge) (checks punctured : �
   abbrev pub backwardsTurn : Messages C → Turn (Messages C)
   backwardsTurn s = let t = backwardsPass s in pick (met o es checks punctured llrs t) (stop t) (go t)
 
-abbrev pub addsBackwards : {C : Type 0} → Confidence C → Decoder (Soft C)
+abbrev pub addsBackwards : {C : Type 0} → Confidence C → Decoder (SoftBuffers C)
 addsBackwards o code b limit =
     let es = edges code in
     let m = checksIn code in

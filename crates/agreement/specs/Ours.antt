@@ -35,14 +35,14 @@ encoding =
     }
 
 -- ---- `copy_encode` is lent both
-pub record Copied : Type 0 where
+pub record CopyBuffers : Type 0 where
   pub message : List ℕ
   pub codeword : List ℕ
 
-abbrev pub copyEncoder : Encoder Copied
+abbrev pub copyEncoder : Encoder CopyBuffers
 copyEncoder code b = copyEncodeOutcome code (b .message) (b .codeword)
 
-abbrev pub copyEncoding : Sending Copied
+abbrev pub copyEncoding : Sending CopyBuffers
 copyEncoding =
     record {
       answer = λ code b. firstOf (copyTests code (length (b .message)) (length (b .codeword)));
@@ -51,12 +51,12 @@ copyEncoding =
     }
 
 -- ---- bit flipping is lent the word, the output and a working buffer
-pub record Hard : Type 0 where
+pub record HardBuffers : Type 0 where
   pub input : List ℕ
   pub output : List ℕ
   pub working : List ℕ
 
-abbrev pub bitFlip : Decoder Hard
+abbrev pub bitFlip : Decoder HardBuffers
 bitFlip code b limit = toldFlip (outcome code (b .input) (b .output) (b .working) limit)
 
 -- "find broken checks": the word of a pass is what the erasure pass and the flips before it left
@@ -64,7 +64,7 @@ abbrev pub flippedIn : ℕ → List ℕ → ℕ → ℕ → ℕ → ℕ
 flippedIn code input limit i =
     wordOf (iterated (flipped (edges code)) i (erasurePasses (punctured code) (edges code) (rowOf code .«punctured_bits») limit (received code input) .word))
 
-abbrev pub bitFlipping : Receiving Hard
+abbrev pub bitFlipping : Receiving HardBuffers
 bitFlipping =
     record {
       answer = λ code b limit. firstOf (tests code (length (b .input)) (length (b .output)) (length (b .working)));
@@ -75,14 +75,14 @@ bitFlipping =
     }
 
 -- ---- min-sum is lent the LLRs, whose hard bits are the word, the output and two working buffers
-pub record Soft (C : Type 0) : Type 0 where
+pub record SoftBuffers (C : Type 0) : Type 0 where
   pub llrs : List C
   pub output : List ℕ
   pub working : List C
   pub signs : List ℕ
 
 module _ {C : Type 0} (o : Confidence C) where
-  abbrev pub minSum : Decoder (Soft C)
+  abbrev pub minSum : Decoder (SoftBuffers C)
   minSum code b limit = toldSoft (decodeOutcome o code (b .llrs) (b .output) (b .working) (b .signs) limit)
 
   -- "If the hard bits of the marginals meet every equation": the word of a pass is what the passes up to it left
@@ -93,7 +93,7 @@ module _ {C : Type 0} (o : Confidence C) where
       let p = rowOf code .«punctured_bits» in
       hardBits o (pass o es m p llrs (iterated (pass o es m p llrs) i (start o es m p llrs)) .marginals)
 
-  abbrev pub minSumming : Receiving (Soft C)
+  abbrev pub minSumming : Receiving (SoftBuffers C)
   minSumming =
       record {
         answer = λ code b limit. decodeAnswer code (length (b .llrs)) (length (b .output)) (length (b .working)) (length (b .signs));
@@ -104,9 +104,9 @@ module _ {C : Type 0} (o : Confidence C) where
       }
 
 -- the LLRs are all in a set of values
-abbrev pub inSet : {C : Type 0} → Confidence C → (C → Type 0) → Soft C → Type 0
+abbrev pub inSet : {C : Type 0} → Confidence C → (C → Type 0) → SoftBuffers C → Type 0
 inSet o In b = Within o In (b .llrs)
 
 -- they are all of one size, up to the largest number
-abbrev pub oneSized : ℕ → Soft ℤ → Type 0
+abbrev pub oneSized : ℕ → SoftBuffers ℤ → Type 0
 oneSized top b = (k : ℕ) × (suc k ≤ top) × OneSize k (b .llrs)

@@ -40,11 +40,11 @@ abbrev pub rowBits : ℕ → List (List Circ) → ℕ → List ℕ
 rowBits b rows c = let t = c % b in map (spot b t) (getD rows (c / b) [])
 
 -- the circulants of nb columns, each by mb rows
-abbrev pub columnOf : List Circ → ℕ → ℕ → List (List Circ)
-columnOf ks mb p = span (λ a. inColumn (inRow ks a) p) 0 mb
+abbrev pub columnCircs : List Circ → ℕ → ℕ → List (List Circ)
+columnCircs ks mb p = span (λ a. inColumn (inRow ks a) p) 0 mb
 
 abbrev pub columnsOf : List Circ → ℕ → ℕ → List (List (List Circ))
-columnsOf ks mb nb = span (columnOf ks mb) 0 nb
+columnsOf ks mb nb = span (columnCircs ks mb) 0 nb
 
 -- by rows
 abbrev pub checksOn : ℕ → List (List (List Circ)) → ℕ → List (List ℕ)
@@ -88,12 +88,12 @@ module _ (b mb nb : ℕ) (pos : 0 < b) (ks : List Circ) (ranged : T (all (inside
   row-bits = fun-ext (λ c. ap (map (spot b (c % b))) (row-at (c / b)))
 
   column-at : (p a : ℕ) → p < nb → getD (getD (columnsOf ks mb nb) p []) a [] ≡ inColumn (inRow ks a) p
-  column-at p a hp = rw (span-get (columnOf ks mb) [] nb p hp) (go (decLt a mb))
+  column-at p a hp = rw (span-get (columnCircs ks mb) [] nb p hp) (go (decLt a mb))
     where
-      go : Dec (a < mb) → getD (columnOf ks mb p) a [] ≡ inColumn (inRow ks a) p
+      go : Dec (a < mb) → getD (columnCircs ks mb p) a [] ≡ inColumn (inRow ks a) p
       go (yes h) = span-get (λ a. inColumn (inRow ks a) p) [] mb a h
       go (no h) =
-          List·getD-eq-default (columnOf ks mb p) [] {n = a} (rw (span-length (λ a. inColumn (inRow ks a) p) 0 mb) (omega arith))
+          List·getD-eq-default (columnCircs ks mb p) [] {n = a} (rw (span-length (λ a. inColumn (inRow ks a) p) 0 mb) (omega arith))
           ∙ sym (ap (λ (l : List Circ). inColumn l p) (row-empty a (omega arith)))
 
   pub dual : (u c a : ℕ) → u < nb * b → occurs (getD (checksOn b (columnsOf ks mb nb) u) a []) c ≡ occurs (pick (eqb (c / b) a) (bitsOn b ks c) []) u

@@ -3,10 +3,10 @@ use mathlib.Core.Logic.{_≢_}
 use mathlib.Core.Path.{_≡_, sym, ap, _∙_, subst}
 use mathlib.Core.List.{List}
 use Prim.Native.Nat.{ℕ, zero, suc, _+_, _*_, _/_, _%_, _<_}
-use native.Mathlib.Nat.{mod-lt}
+use native.Mathlib.Nat.{mod-lt, div-lt-iff-lt-mul}
 use native.Mathlib.Decide.{ℕ-discrete}
 use native.Mathlib.Omega.{arith}
-use lib.Arith.{digits-div, digits-mod}
+use lib.Arith.{digits-div, digits-mod, digits-lt}
 use Rattle.maths.specs.Sums.{sumN, Even}
 use Rattle.maths.proofs.Sums.{sumN-ext, sumN-zero, sumN-blocks}
 use Rattle.maths.proofs.Turns.{sumN-turn}
@@ -17,24 +17,31 @@ use Rattle.matrices.proofs.Rows.{inRow, sumRow, sum-row-turn}
 abbrev pub EvenRows : ℕ → ℕ → List Circ → (ℕ → ℕ) → Type 0
 EvenRows b mb ks w = (a t : ℕ) → a < mb → t < b → Even (sumRow b (inRow ks a) (λ q x. w (q * b + x)) t)
 
-abbrev pub turned : ℕ → ℕ → (ℕ → ℕ) → ℕ → ℕ
-turned b e w v = w (v / b * b + (v % b + e) % b)
+-- a bit turned in its block, and a word that is turned so
+abbrev pub rot : ℕ → ℕ → ℕ → ℕ
+rot b e v = v / b * b + (v % b + e) % b
+
+abbrev pub turnedWord : ℕ → ℕ → (ℕ → ℕ) → ℕ → ℕ
+turnedWord b e w v = w (rot b e v)
+
+pub rot-low : (b : ℕ) → 0 < b → (e n v : ℕ) → v < n * b → rot b e v < n * b
+rot-low b pos e n v h = digits-lt (div-lt-iff-lt-mul pos .1 h) (mod-lt (v % b + e) pos)
 
 module _ (b e : ℕ) (pos : 0 < b) (w : ℕ → ℕ) where
-  pub turned-at : (q x : ℕ) → x < b → turned b e w (q * b + x) ≡ w (q * b + (x + e) % b)
+  pub turned-at : (q x : ℕ) → x < b → turnedWord b e w (q * b + x) ≡ w (q * b + (x + e) % b)
   turned-at q x hx = rw (digits-div q hx, digits-mod q hx)
 
-  pub turned-even : (mb : ℕ) (ks : List Circ) → EvenRows b mb ks w → EvenRows b mb ks (turned b e w)
+  pub turned-even : (mb : ℕ) (ks : List Circ) → EvenRows b mb ks w → EvenRows b mb ks (turnedWord b e w)
   turned-even mb ks even a t ha ht =
-      subst Even (sym (sum-row-turn b (inRow ks a) (λ q x. turned b e w (q * b + x)) (λ q x. w (q * b + x)) e t pos turned-at))
+      subst Even (sym (sum-row-turn b (inRow ks a) (λ q x. turnedWord b e w (q * b + x)) (λ q x. w (q * b + x)) e t pos turned-at))
       (even a ((t + e) % b) ha (mod-lt (t + e) pos))
 
   -- as many ones
-  pub turned-sum : (nb : ℕ) → sumN (nb * b) (turned b e w) ≡ sumN (nb * b) w
+  pub turned-sum : (nb : ℕ) → sumN (nb * b) (turnedWord b e w) ≡ sumN (nb * b) w
   turned-sum nb =
-      sumN-blocks nb b (turned b e w)
+      sumN-blocks nb b (turnedWord b e w)
       ∙ sumN-ext nb _ _ (λ q h.
-      sumN-ext b (λ x. turned b e w (q * b + x)) (λ x. w (q * b + (x + e) % b)) (λ x hx. turned-at q x hx) ∙ sumN-turn b e (λ x. w (q * b + x)))
+      sumN-ext b (λ x. turnedWord b e w (q * b + x)) (λ x. w (q * b + (x + e) % b)) (λ x hx. turned-at q x hx) ∙ sumN-turn b e (λ x. w (q * b + x)))
       ∙ sym (sumN-blocks nb b w)
 
 -- a word has no one below n, or a first one

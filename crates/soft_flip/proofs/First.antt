@@ -24,7 +24,7 @@ use Rattle.min_sum.specs.MinSum.{Link, link, numbered, Messages, at, newU, newV
 use Rattle.min_sum.proofs.Marginals.{Quiet, quiet-u}
 use Rattle.min_sum.proofs.Success.{steady}
 use Rattle.soft_flip.specs.OneSize.{level}
-use Rattle.soft_flip.proofs.Levels.{level-hard, level-size, first-v, firstOf, secondOf, first-step, second-step}
+use Rattle.soft_flip.proofs.Levels.{level-hard, level-size, first-v, firstMinimum, secondMinimum, first-step, second-step}
 
 -- the bits as numbers, and whether a number is odd
 abbrev pub ones : (ℕ → Bool) → ℕ → ℕ
@@ -197,20 +197,20 @@ module _ (top k : ℕ) (fits : suc k ≤ top) where
       abbrev lowered : Bool → ℤ × ℤ → ℤ × ℤ
       lowered b (x, y) = (newFirst o (pos (suc k)) x, newSecond o (pos (suc k)) x y)
 
-      lowered-all : (vs : List ℕ) (c : ℕ) → fold (λ v. lowered (r v)) vs (firstOf top k fits c, secondOf top k fits c)
-          ≡ (firstOf top k fits (length vs + c), secondOf top k fits (length vs + c))
+      lowered-all : (vs : List ℕ) (c : ℕ) → fold (λ v. lowered (r v)) vs (firstMinimum top k fits c, secondMinimum top k fits c)
+          ≡ (firstMinimum top k fits (length vs + c), secondMinimum top k fits (length vs + c))
       unfolding fold
       lowered-all [] c = rw (zero-add c)
       lowered-all (v ∷ vs) c =
           let e : suc (length vs) + c ≡ length vs + suc c = omega arith in
           rw (first-step top k fits c, second-step top k fits c, e) (lowered-all vs (suc c))
 
-      pub minima : (j : ℕ) (es : List Edge) (s : Messages ℤ) → Ready j es s → at o (s .first) a ≡ firstOf top k fits 0 → at o (s .second) a ≡ secondOf top k fits 0
-          → let c = length (bitsOf es a) in (at o (last j es s .first) a ≡ firstOf top k fits c) × (at o (last j es s .second) a ≡ secondOf top k fits c)
+      pub minima : (j : ℕ) (es : List Edge) (s : Messages ℤ) → Ready j es s → at o (s .first) a ≡ firstMinimum top k fits 0 → at o (s .second) a ≡ secondMinimum top k fits 0
+          → let c = length (bitsOf es a) in (at o (last j es s .first) a ≡ firstMinimum top k fits c) × (at o (last j es s .second) a ≡ secondMinimum top k fits c)
       minima j es s q f g =
           let c = length (bitsOf es a) in
           let z : c + 0 ≡ c = add-zero c in
-          let all : _≡_ {A = ℤ × ℤ} (fold (λ v. lowered (r v)) (bitsOf es a) (held-by s)) (firstOf top k fits c, secondOf top k fits c) =
+          let all : _≡_ {A = ℤ × ℤ} (fold (λ v. lowered (r v)) (bitsOf es a) (held-by s)) (firstMinimum top k fits c, secondMinimum top k fits c) =
           rw (f, g) (rw z at (lowered-all (bitsOf es a) 0)) in
           let both = stepped held-by lowered here there j es s q ∙ all in
           (ap (λ (z : ℤ × ℤ). z .0) both, ap (λ (z : ℤ × ℤ). z .1) both)

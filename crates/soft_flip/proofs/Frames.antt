@@ -26,7 +26,7 @@ use Rattle.codes.proofs.Codes.{tc-sent}
 use Rattle.report.specs.Report.{ending}
 use Rattle.two_flips.specs.Words.{plus, oneAt}
 use Rattle.two_flips.proofs.Added.{plus-at}
-use Rattle.two_flips.proofs.Frames.{whole as whole-frame, word, word-is, word-long, word-bits, word-good, one-error}
+use Rattle.two_flips.proofs.Frames.{whole-frame, word, word-is, word-long, word-bits, word-good, one-error}
 use Rattle.min_sum.specs.Soft.{below0}
 use Rattle.min_sum.specs.Confidence.{Confidence, whole}
 use Rattle.min_sum.specs.MinSum.{Messages, hardBits, start, pass, decoded}

@@ -61,14 +61,14 @@ module _ (top k : ℕ) (fits : suc k ≤ top) where
   second-u false false = rw (pick-same (alike (size top (level k false)) (pos (suc k))) (pos (suc k)))
 
   -- the minima after so many edges
-  abbrev pub firstOf : ℕ → ℤ
-  firstOf zero = pos top
-  firstOf (suc c) = pos (suc k)
+  abbrev pub firstMinimum : ℕ → ℤ
+  firstMinimum zero = pos top
+  firstMinimum (suc c) = pos (suc k)
 
-  abbrev pub secondOf : ℕ → ℤ
-  secondOf zero = pos top
-  secondOf (suc zero) = pos top
-  secondOf (suc (suc c)) = pos (suc k)
+  abbrev pub secondMinimum : ℕ → ℤ
+  secondMinimum zero = pos top
+  secondMinimum (suc zero) = pos top
+  secondMinimum (suc (suc c)) = pos (suc k)
 
   not-less : ltb (suc k) (suc k) ≡ false
   not-less = le-ltb (suc k) (suc k) (omega arith)
@@ -77,12 +77,12 @@ module _ (top k : ℕ) (fits : suc k ≤ top) where
   by-less true e = refl
   by-less false e = ap pos (omega (arith, ltb-false (suc k) top e))
 
-  pub first-step : (c : ℕ) → newFirst (whole top) (pos (suc k)) (firstOf c) ≡ firstOf (suc c)
+  pub first-step : (c : ℕ) → newFirst (whole top) (pos (suc k)) (firstMinimum c) ≡ firstMinimum (suc c)
   unfolding lower
   first-step zero = by-less (ltb (suc k) top) refl
   first-step (suc c) = pick-same (ltb (suc k) (suc k)) (pos (suc k))
 
-  pub second-step : (c : ℕ) → newSecond (whole top) (pos (suc k)) (firstOf c) (secondOf c) ≡ secondOf (suc c)
+  pub second-step : (c : ℕ) → newSecond (whole top) (pos (suc k)) (firstMinimum c) (secondMinimum c) ≡ secondMinimum (suc c)
   unfolding lower
   second-step zero = go (ltb (suc k) top)
     where

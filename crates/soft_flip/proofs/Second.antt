@@ -23,7 +23,7 @@ use Rattle.min_sum.proofs.Marginals.{start-quiet, pass-marginals, first-hard}
 use Rattle.min_sum.proofs.Success.{steady}
 use Rattle.soft_flip.specs.OneSize.{level}
 use Rattle.soft_flip.proofs.Saturated.{total, signs}
-use Rattle.soft_flip.proofs.Levels.{level-add, zero-add as zero-sum, second-u, firstOf, secondOf}
+use Rattle.soft_flip.proofs.Levels.{level-add, zero-add as zero-sum, second-u, firstMinimum, secondMinimum}
 use Rattle.soft_flip.proofs.First.{ones, oddly, added-v, Still, still-added, Ready, Held, held, minima, negative}
 
 module _ (top k : ℕ) (fits : suc k ≤ top) where
@@ -143,7 +143,7 @@ module _ (top k : ℕ) (fits : suc k ≤ top) where
     abbrev pass₀ : Messages ℤ
     pass₀ = pass o es m 0 llrs (start o es m 0 llrs)
 
-    first-two : (c : ℕ) → 2 ≤ c → (firstOf top k fits c ≡ pos (suc k)) × (secondOf top k fits c ≡ pos (suc k))
+    first-two : (c : ℕ) → 2 ≤ c → (firstMinimum top k fits c ≡ pos (suc k)) × (secondMinimum top k fits c ≡ pos (suc k))
     first-two zero h = absurd (omega arith)
     first-two (suc zero) h = absurd (omega arith)
     first-two (suc (suc c)) h = (refl, refl)

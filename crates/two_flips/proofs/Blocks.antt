@@ -20,13 +20,13 @@ use Rattle.matrices.specs.Counts.{count}
 use Rattle.matrices.proofs.Edges.{Ranged}
 use Rattle.low_weights.proofs.Occurs.{occurs, Once, delta-apart}
 use Rattle.low_weights.proofs.Lines.{bitsOn}
-use Rattle.low_weights.proofs.Turned.{turned}
+use Rattle.low_weights.proofs.Turned.{rot, turnedWord}
 use Rattle.two_flips.specs.Clear.{Clear}
 use Rattle.two_flips.specs.Flips.{degree, PairFlips}
 use Rattle.two_flips.proofs.Scores.{scoreAt, touching-score, leads-clear}
 use Rattle.two_flips.proofs.Mends.{Mends, mends-some}
 use Rattle.two_flips.proofs.Pairs.{pair, pair-swap, own, both-mend, first-mends}
-use Rattle.two_flips.proofs.Turning.{rot, Back, rot-back, back-one, back-two, delta-rot, score-rot, mends-rot}
+use Rattle.two_flips.proofs.Turning.{Back, rot-back, back-one, back-two, delta-rot, score-rot, mends-rot}
 use Rattle.two_flips.proofs.Sparse.{tell, tell-occurs, all-occurs, near-score, mends, mends-sound}
 use Rattle.two_flips.proofs.Circles.{checksBy, bits-count, check-count}
 use Rattle.two_flips.proofs.Tests.{lightFlips, around, beside, beside-other, pair-tested, bitTest, blocksTest}
@@ -93,7 +93,7 @@ module _ (b mb nb : ℕ) (pos : 0 < b) (ks : List Circ) (ranged : Ranged (mb * b
   share-turn : (r s : ℕ) → Back b r s → Back b s r → (x u : ℕ) → share x u ≡ share (rot b s x) (rot b s u)
   share-turn r s there back x u =
       let e = score-rot b mb nb pos ks ranged r (delta x) (rot b s u) in
-      let f : turned b r (delta x) ≡ delta (rot b s x) = fun-ext (delta-rot b pos r s there back x) in
+      let f : turnedWord b r (delta x) ≡ delta (rot b s x) = fun-ext (delta-rot b pos r s there back x) in
       ap (share x) (sym (rot-back b pos s r back u)) ∙ sym e ∙ ap (λ (g : ℕ → ℕ). scoreAt (edgesOf b ks) g (rot b s u)) f
 
   -- ---- any bit, turned to the first of its block
@@ -152,7 +152,7 @@ module _ (b mb nb : ℕ) (pos : 0 < b) (ks : List Circ) (ranged : Ranged (mb * b
         let turn = mends-rot b mb nb pos ks ranged back (x % b) back-forth forth-back (z .0) (occurs (x₀ ∷ y₀ ∷ [])) (z .2) in
         (z .0, z .1, subst (Mends (edgesOf b ks) (nb * b) (z .0)) (fun-ext (λ v. at v)) turn)
       where
-        at : (v : ℕ) → turned b back (occurs (x / b * b ∷ rot b back y ∷ [])) v ≡ pair x y v
+        at : (v : ℕ) → turnedWord b back (occurs (x / b * b ∷ rot b back y ∷ [])) v ≡ pair x y v
         at v =
             let here = delta-swap (rot b back v) (x / b * b) ∙ delta-rot b pos back (x % b) back-forth forth-back (x / b * b) v ∙ ap (λ (u : ℕ). delta u v) first-turned in
             let there = delta-swap (rot b back v) (rot b back y) ∙ delta-rot b pos back (x % b) back-forth forth-back (rot b back y) v

@@ -49,15 +49,15 @@ module _ (code : ℕ) (tc : TC code) (s : List ℕ) (bytes : Bytes s) (long : le
   abbrev known-code : Known code
   known-code = omega arith
 
-  pub whole : 8 * length s ≡ bitsIn code
-  whole = omega (arith, roomy code known-code .sent, tc-sent code tc)
+  pub whole-frame : 8 * length s ≡ bitsIn code
+  whole-frame = omega (arith, roomy code known-code .sent, tc-sent code tc)
 
   -- the frame as a word
   abbrev pub word : List ℕ
   word = span (bitAt s) 0 (bitsIn code)
 
   pub word-is : wordOf word ≡ bitAt s
-  word-is = received-word s (bitsIn code) (omega (arith, whole))
+  word-is = received-word s (bitsIn code) (omega (arith, whole-frame))
 
   pub word-long : length word ≡ bitsIn code
   word-long = span-length (bitAt s) 0 (bitsIn code)
@@ -74,7 +74,7 @@ module _ (code : ℕ) (tc : TC code) (s : List ℕ) (bytes : Bytes s) (long : le
     errors vs v = sumL vs (λ x. delta x v)
 
     low-at : (x : ℕ) (vs : List ℕ) → T (all (λ v. ltb v (8 * length s)) (x ∷ vs)) → x < bitsIn code
-    low-at x vs h = omega (arith, whole, ltb→lt x (8 * length s) (both-left (ltb x (8 * length s)) (all (λ v. ltb v (8 * length s)) vs) h))
+    low-at x vs h = omega (arith, whole-frame, ltb→lt x (8 * length s) (both-left (ltb x (8 * length s)) (all (λ v. ltb v (8 * length s)) vs) h))
 
     places-low : (v : ℕ) → v < 8 * length s → errors (places s t) v < 2
     unfolding places
@@ -101,7 +101,7 @@ module _ (code : ℕ) (tc : TC code) (s : List ℕ) (bytes : Bytes s) (long : le
       sum =
           sym (plus-is word (span f 0 (bitsIn code)) f (λ v l. span-get f 0 (bitsIn code) v (omega (arith, word-long)))
           ∙ rw word-long (span-ext (λ v. (wordOf word v + f v) % 2) (bitAt t) 0 0 (bitsIn code) (λ v l.
-          ap (λ (g : ℕ → ℕ). (g (0 + v) + f (0 + v)) % 2) word-is ∙ sym (differ (0 + v) (omega (arith, whole))))))
+          ap (λ (g : ℕ → ℕ). (g (0 + v) + f (0 + v)) % 2) word-is ∙ sym (differ (0 + v) (omega (arith, whole-frame))))))
 
     module _ (output working : List ℕ) (limit : ℕ) (accepted : answerOf code t output working ≡ 0) where
       -- any errors, by bytes
@@ -134,7 +134,7 @@ module _ (code : ℕ) (tc : TC code) (s : List ℕ) (bytes : Bytes s) (long : le
           → passes (edges code) (checksIn code) limit (plus word (span f 0 (bitsIn code))) ≡ end success k word
           → outcome code t output working limit ≡ leaves code success k s
       by-passes f differ success k ran =
-          let o : rowOf code .«output_len» ≡ length s = omega (arith, whole, roomy code known-code .whole) in
+          let o : rowOf code .«output_len» ≡ length s = omega (arith, whole-frame, roomy code known-code .whole) in
           outcome-is code tc limit t output working accepted ∙ rw (sum f differ, ran, o, word-is, pack-again s bytes)
 
       -- one flipped bit
@@ -162,7 +162,7 @@ module _ (code : ℕ) (tc : TC code) (s : List ℕ) (bytes : Bytes s) (long : le
           go (x ∷ y ∷ []) is len low flip once =
               let hx = low-at x (y ∷ []) low in
               let hy = low-at y [] (both-right (ltb x (8 * length s)) (all (λ v. ltb v (8 * length s)) (y ∷ [])) low) in
-              let ne : x ≢ y = λ e. omega (arith, once x (omega (arith, whole)), delta-self x, ap (λ (u : ℕ). delta u x) e) in
+              let ne : x ≢ y = λ e. omega (arith, once x (omega (arith, whole-frame)), delta-self x, ap (λ (u : ℕ). delta u x) e) in
               let (k, flips, ran) = two-flips code tc word word-bits word-long word-good x y hx hy ne limit h in
               (x, y, k, is, flips, by-passes (λ v. delta x v + delta y v) (λ v l. rw (add-zero (delta y v)) at (flip v l)) true k ran)
           go (x ∷ y ∷ u ∷ vs) is len low flip once = absurd (omega arith)
