@@ -40,10 +40,10 @@ pub record Telecommand {C : Type 0} (o : Confidence C) (minus plus : C) (code : 
       → distance frame received ≡ 1 → 2 ≤ limit → Returned true 1 frame x
   pub one-seen-late : {received : List ℕ} {limit : ℕ} {x : Told} → ByFlipping code received limit x
       → distance frame received ≡ 1 → limit ≡ 1 → Returned false 1 frame x
-  -- two flipped bits in k passes, by their edges
+  -- two flipped bits it puts right at iteration 1, 2 or 3, by their edges
   pub two-put-right : {received : List ℕ} {limit : ℕ} {x : Told} → ByFlipping code received limit x → distance frame received ≡ 2 → 4 ≤ limit
       → (a b k : ℕ) × (places frame received ≡ a ∷ b ∷ []) × PairFlips (edges code) a b k × Returned true k frame x
-  -- and answers any errors as it does these alone, with the frame added: what becomes of them does not depend on the data
+  -- and any errors it answers as it would these bits alone, with the frame added: what becomes of them does not depend on the data
   pub errors-alone : {received errors : List ℕ} {limit : ℕ} {x y : Told} → ByFlipping code received limit x → ByFlipping code errors limit y
       → ((v : ℕ) → v < 8 * length frame → bitAt received v ≡ (bitAt frame v + bitAt errors v) % 2)
       → (x .report ≡ y .report) × ((v : ℕ) → bitAt (x .output) v ≡ (bitAt frame v + bitAt (y .output) v) % 2)

@@ -68,6 +68,7 @@ replicate-at zero x i = refl
 replicate-at (suc n) x zero = refl
 replicate-at (suc n) x (suc i) = replicate-at n x i
 
+-- behind another list it does not show
 pub padded-at : {A : Type 0} (xs : List A) (n : ℕ) (x : A) (i : ℕ) → getD (xs ++ replicate n x) i x ≡ getD xs i x
 padded-at [] n x i = replicate-at n x i
 padded-at (y ∷ xs) n x zero = refl

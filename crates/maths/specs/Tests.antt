@@ -1,4 +1,4 @@
--- Tests: choosing by one, joining two, and one that is asked of every element or of every number below a bound. Assumes nothing.
+-- Tests: choosing by one, joining two, and one that is asked of every element or of every number below a bound; and what is no test at all. Assumes nothing.
 use mathlib.Core.Bool.{Bool, true, false}
 use mathlib.Core.List.{List, [], _∷_}
 use Prim.Native.Nat.{ℕ, zero, suc}
@@ -13,10 +13,6 @@ abbrev pub both : Bool → Bool → Bool
 both true b = b
 both false b = false
 
--- what holds of whatever is asked about
-abbrev pub Anything : {A : Type 0} → A → Type 0
-Anything x = T true
-
 -- the test holds of every element
 abbrev pub all : {A : Type 0} → (A → Bool) → List A → Bool
 all f [] = true
@@ -26,3 +22,7 @@ all f (x ∷ xs) = both (f x) (all f xs)
 abbrev pub below : ℕ → (ℕ → Bool) → Bool
 below zero f = true
 below (suc n) f = both (f n) (below n f)
+
+-- what holds of whatever it is asked of
+abbrev pub Anything : {A : Type 0} → A → Type 0
+Anything x = T true
