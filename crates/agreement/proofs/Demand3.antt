@@ -1,4 +1,4 @@
--- Demand 3 holds: of any confidences that are steady, with two of them for the bits, and so of i8. Assumes nothing.
+-- Demand 3 holds: of any confidences that are steady, with two of them for the bits; so of whole numbers, and of i8. Assumes nothing.
 use mathlib.Core.Bool.{true, false}
 use mathlib.Core.List.{List}
 use mathlib.Core.Path.{_≡_, refl, sym, _∙_}
@@ -82,7 +82,11 @@ module _ {C : Type 0} (o : Confidence C) {In : C → Type 0} (st : Steady o In) 
   pub demand3 : Demand3 o minus plus
   demand3 = record { success-meets = λ s. succeeded s .meets; telecommand = telecommand; telemetry = telemetry }
 
--- of i8, with -1 for a 1 bit and 1 for a 0 bit
-pub demand3-i8 : Demand3 i8 (negsuc 0) (pos 1)
+-- of whole numbers up to any largest, with minus and plus any one size
+pub demand3-whole : (top k : ℕ) → Demand3 (whole top) (negsuc k) (pos (suc k))
 unfolding below0
-demand3-i8 = demand3 i8 (steady 127) (negsuc 0) (pos 1) tt tt refl refl
+demand3-whole top k = demand3 (whole top) (steady top) (negsuc k) (pos (suc k)) tt tt refl refl
+
+-- and so of i8, with -1 for a 1 bit and 1 for a 0 bit
+pub demand3-i8 : Demand3 i8 (negsuc 0) (pos 1)
+demand3-i8 = demand3-whole 127 0
