@@ -63,7 +63,8 @@ pub fn pack(bits: &[u8], bytes: &mut [u8])
     }
 }
 
-fn larger(a: u8, b: u8) -> u8
+// The larger of two bytes.
+pub fn larger(a: u8, b: u8) -> u8
     ensures { λ r. ⌜ r ≡ max a b ⌝ }
 {
     if a < b { b } else { a }

@@ -62,11 +62,6 @@ all-passed (t ∷ ts) low e =
     by true (suc n) l k e = absurd (omega arith)
     by false n l k e = (refl, k e)
 
--- the first test, and what the rest answers
-pub passed : (fails : Bool) (n : ℕ) {rest : ℕ} → pick fails (suc n) rest ≡ 0 → (fails ≡ false) × (rest ≡ 0)
-passed true n e = absurd (omega arith)
-passed false n e = (refl, e)
-
 pub passed-known : (code : ℕ) → not (known code) ≡ false → Known code
 passed-known code e = ltb-true code codes (not-false (ltb code codes) e)
 

@@ -150,6 +150,3 @@ module _ (code : ℕ) {p : ParamsAnswer} (e : p ≡ paramsOf code) where
       go : (b : Bool) → known code ≡ b → Known code
       go true k = ltb-true code codes k
       go false k = absurd (let z : p .answer ≡ 1 = rw (e, k) in omega arith)
-
-  pub asked-roomy : p .answer ≡ 0 → Roomy (p .row)
-  asked-roomy h = rw e (roomy code (asked-known h))

@@ -64,9 +64,15 @@ abbrev NoneOf : ℕ → ℕ → Type 0
 NoneOf code zero = Unit
 NoneOf code (suc n) = NoneOf code n × (code ≡ n → ⊥)
 
-pub none-below : (code n : ℕ) → NoneOf code n → n ≤ code
+none-below : (code n : ℕ) → NoneOf code n → n ≤ code
 none-below code zero r = omega arith
 none-below code (suc n) (r, other) = omega (arith, none-below code n r)
+
+pub known-none : (code n : ℕ) (row : CodeParams) → Accepted code row n → NoneOf code codes → ⊥
+known-none code n row a none = omega (arith, a .known, none-below code codes none)
+
+pub known-low : (code n : ℕ) (row : CodeParams) → Accepted code row n → row .k ≤ row .n
+known-low code n row a = rw (a .is-row) (roomy code (a .known) .k-low)
 
 -- ---- a call with the row and the words of the code n
 module _ (code n : ℕ) (row : CodeParams) (s g : List ℕ) (is : code ≡ n) where
@@ -79,4 +85,4 @@ module _ (code n : ℕ) (row : CodeParams) (s g : List ℕ) (is : code ≡ n) wh
       → g ≡ generatorOf n → Accepted code row (length s) → t ≡ encodedBytes code (take (rowOf code .k / 8) s)
   known-frame f words a = (rw (a .is-row, words, ← is) at f) ∙ placed-frame code (a .known) s (a .long)
 
-pub ruleset framing = (known-parts, known-frame, needs)
+pub ruleset framing = (known-low, known-parts, known-frame, needs)

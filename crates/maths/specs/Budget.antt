@@ -24,7 +24,7 @@ follow (go s) n rest = rest s
 -- at most so many turns, numbered from n on
 unfoldable pub run : {S : Type 0} → (S → Turn S) → ℕ → ℕ → S → End S
 run turn zero n s = end false n s
-run turn (suc budget) n s = follow (turn s) n (run turn budget (suc n))
+run turn (suc limit) n s = follow (turn s) n (run turn limit (suc n))
 
 -- what is left of a state by so many steps
 unfoldable pub iterated : {S : Type 0} → (S → S) → ℕ → S → S

@@ -100,10 +100,10 @@ pub met-by : (ns word bits bits′ checks : List ℕ) (m n n′ r : ℕ) → r �
 unfolding noneBroken
 met-by ns word bits bits′ checks m n n′ r er ec eb en = rw (er, ec, eb, en)
 
--- ---- a word of a known code
-module _ (code : ℕ) (row : CodeParams) (bytes : ℕ) (a : Accepted code row bytes) where
-  pub row-roomy : Roomy row
-  row-roomy = rw (a .is-row) (roomy code (a .known))
+-- ---- the row of a known code
+module _ (code : ℕ) (row : CodeParams) (is : row ≡ rowOf code) (known : Known code) where
+  row-roomy : Roomy row
+  row-roomy = rw is (roomy code known)
 
   pub bits-fit : Fits w64 (row .n + row .«punctured_bits»)
   bits-fit = record { fits = omega (arith, row-roomy .bits) }
@@ -117,6 +117,13 @@ module _ (code : ℕ) (row : CodeParams) (bytes : ℕ) (a : Accepted code row by
   pub checks-few : row .n + row .«punctured_bits» - row .k ≤ maxChecks
   checks-few = row-roomy .checks
 
+  -- as many zeros as it has checks, and as it has bits
+  pub checks-lent : length (zeros maxChecks (row .n + row .«punctured_bits» - row .k)) ≡ checksIn code
+  checks-lent = sym (zeros-lent maxChecks _ checks-few) ∙ rw is
+
+  bits-lent : length (zeros maxBits (row .n + row .«punctured_bits»)) ≡ bitsIn code
+  bits-lent = sym (zeros-lent maxBits _ bits-few) ∙ rw is
+
 pub code-met : (code : ℕ) (row : CodeParams) (word : List ℕ) (q : Runs) (r : Bool) → Accepted code row (length word) → q ≡ runsOf code
     → (let checks = zeros maxChecks (row .n + row .«punctured_bits» - row .k) in
     let bits = zeros maxBits (row .n + row .«punctured_bits») in
@@ -124,10 +131,9 @@ pub code-met : (code : ℕ) (row : CodeParams) (word : List ℕ) (q : Runs) (r :
 unfolding meetsTest noneBroken
 code-met code row word q r a eq er =
     let n = row .n + row .«punctured_bits» in
-    let l : length (zeros maxBits n) ≡ bitsIn code = sym (zeros-lent maxBits n (bits-few code row (length word) a)) ∙ rw (a .is-row) in
-    let k : length (zeros maxChecks (n - row .k)) ≡ checksIn code = sym (zeros-lent maxChecks (n - row .k) (checks-few code row (length word) a)) ∙ rw (a .is-row) in
+    let l = bits-lent code row (a .is-row) (a .known) in
     let w : wordOf (unpacked word (zeros maxBits n)) ≡ bitAt word = unpacked-word word (zeros maxBits n) (omega (arith, a .long, l, roomy code (a .known) .whole)) in
-    er ∙ rw (w, l, k, runs-taken code q eq, laid-runs code (a .known)) (none-broken (edges code) (checksIn code) (bitAt word))
+    er ∙ rw (w, l, checks-lent code row (a .is-row) (a .known), runs-taken code q eq, laid-runs code (a .known)) (none-broken (edges code) (checksIn code) (bitAt word))
 
 pub ruleset meeting = (runs-fit, runs-room, runs-lent, zeros-lent, bits-fit, data-low, bits-few, checks-few, met-by, code-met, needs)
 

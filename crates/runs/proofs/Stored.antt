@@ -8,8 +8,6 @@ use borrow.Author.Needs.{needs}
 use borrow.Author.Tests.{eq-eqb, ne-eqb}
 use lib.ListN.{length, getD, set, length-append}
 use lib.Dec.{eqb}
-use mir.Syntax.{w64}
-use mir.Val.{Fits}
 use native.Mathlib.Numerals.{add-one}
 use Rattle.maths.proofs.Tests.{pick-both}
 use Rattle.maths.proofs.Stores.{sets-append}
@@ -76,12 +74,6 @@ module _ (m : ℕ) (theta : List ℕ) (phi : List (List ℕ)) (value a v : ℕ) 
 
 -- ---- a quarter, from what the functions find: x and y are j * (m / 4) and so for the bits
 module _ (t a v m value j : ℕ) (f : QuarterFits t a v m value j) where
-  pub quarter-size : m / 4 < 65536
-  quarter-size = omega (arith, f .check-low)
-
-  pub quarter-adds : (b x : ℕ) → b + m < 65536 → x ≤ 3 * (m / 4) → Fits w64 (b + x)
-  quarter-adds b x h k = record { fits = omega arith }
-
   pub quarter-fits : (s x y : ℕ) → x ≤ 3 * (m / 4) → y ≤ 3 * (m / 4) → TurnFits t (a + x) (v + y) (s % (m / 4)) (m / 4)
   quarter-fits s x y hx hy =
       record { free = f .free; turn-low = mod-lt s (omega (arith, f .sized .low)); check-low = omega (arith, f .check-low); bit-low = omega (arith, f .bit-low) }
@@ -154,4 +146,4 @@ module _ (m : ℕ) (theta : List ℕ) (phi : List (List ℕ)) (h : List (List (L
   place-stored t′ l l′ s e = rw e at s
 
 pub ruleset storing =
-    (stored-run, stored-whole, stored-turned, quarter-size, quarter-adds, quarter-fits, quarter-stored, quarters-begin, quarters-fit, quarters-more, quarters-end, block-ends, block-empty, block-identity, block-permutation, identity-fits, permutation-fits, place-fits, place-stored, needs)
+    (stored-run, stored-whole, stored-turned, quarter-fits, quarter-stored, quarters-begin, quarters-fit, quarters-more, quarters-end, block-ends, block-empty, block-identity, block-permutation, identity-fits, permutation-fits, place-fits, place-stored, needs)

@@ -1,3 +1,4 @@
+-- The loop's invariant: the first i bytes are 0, the others are as they were.
 use Prim.Native.Nat.{_-_}
 use Rattle.maths.proofs.Writing.{Written, writes}
 use Rattle.bits.proofs.clear.Statement.{statement}

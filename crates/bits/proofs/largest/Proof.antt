@@ -1,3 +1,4 @@
+-- The loop's invariant: the larger of the present top and of the bytes left is the largest of all.
 use Prim.Native.Nat.{_-_}
 use Rattle.bits.proofs.Loops.{Comparing, loops}
 use Rattle.bits.proofs.largest.Statement.{statement}

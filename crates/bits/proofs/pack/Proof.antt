@@ -1,3 +1,4 @@
+-- The loop's invariant: the first i bytes are packed, the others are as they were.
 use Prim.Native.Nat.{_-_}
 use Rattle.bits.proofs.Loops.{Packing, loops}
 use Rattle.bits.proofs.pack.Statement.{statement}

@@ -1,3 +1,4 @@
+-- The loop's invariant: the bits of the first i bytes stand there, the others are as they were.
 use Prim.Native.Nat.{_-_}
 use Rattle.bits.proofs.Loops.{Unpacking, loops}
 use Rattle.bits.proofs.unpack.Statement.{statement}

@@ -1,3 +1,4 @@
+-- The loop's invariant: the runs stored, and those of the blocks from the found one on, are all.
 use lib.ListN.{length}
 use Rattle.codes.specs.Codes.{made}
 use Rattle.codes.specs.Blocks.{restOf}

@@ -1,3 +1,4 @@
+-- The loop's invariant: the first j quarters are stored.
 use Prim.Native.Nat.{_-_}
 use Rattle.runs.proofs.Stored.{Quartering, storing}
 use Rattle.runs.proofs.put_quarters.Statement.{statement}
