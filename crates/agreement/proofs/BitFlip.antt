@@ -18,11 +18,11 @@ use Rattle.runs.specs.Meets.{holds}
 use Rattle.report.specs.Report.{refusal, ending, Told, told}
 use Rattle.bit_flip.specs.Flip.{flipped, pass, passes}
 use Rattle.bit_flip.specs.Erasures.{erasurePasses}
-use Rattle.bit_flip.specs.Outcome.{Outcome, left, decodeWord, received, punctured, decoded, outcome}
+use Rattle.bit_flip.specs.Outcome.{Outcome, left, toldFlip, decodeWord, received, punctured, decoded, outcome}
 use Rattle.bit_flip.proofs.Theorems.{answerOf, is-accepted, success-meets, clean}
 use Rattle.telemetry.specs.Completion.{completionBytes, Completes}
 use Rattle.telemetry.proofs.Clean.{unchanged}
-use Rattle.agreement.specs.Parties.{Sent, toldFlip, ByFlipping}
+use Rattle.agreement.specs.Parties.{Sent, ByFlipping}
 use Rattle.agreement.specs.Demands.{DecodesByTable, SuccessMeets, FrameReturns, FrameCompletes, CountsPasses, DecodesAs}
 use Rattle.agreement.specs.Ours.{HardBuffers, bitFlip, flippedIn, bitFlipping}
 use Rattle.agreement.proofs.Sender.{of-message, sent-bytes, sent-meets, sent-completes}

@@ -14,7 +14,7 @@ use Rattle.matrices.proofs.Sizes.{tc-bits}
 use Rattle.low_weights.proofs.Distances.{near-same, wrong-noticed}
 use Rattle.report.specs.Report.{Told}
 use Rattle.two_flips.proofs.Frames as flips
-use Rattle.min_sum.specs.Soft.{below0}
+use Rattle.min_sum.specs.Soft.{hard}
 use Rattle.min_sum.specs.Confidence.{Confidence, Steady, whole, i8}
 use Rattle.min_sum.specs.Hard.{toHard}
 use Rattle.min_sum.proofs.Success.{steady}
@@ -35,7 +35,7 @@ module _ {top k : ℕ} {code : ℕ} {received : List ℕ} {limit : ℕ} {x : Tol
   one-size = rw (summing-llrs c) (llrs-one-size k received)
 
   whole-hard : toHard (whole top) (c .llrs) ≡ received
-  unfolding below0
+  unfolding hard
   whole-hard = summing-hard c refl refl refl
 
 -- ---- a success near a sent frame
@@ -84,7 +84,7 @@ module _ {C : Type 0} (o : Confidence C) {In : C → Type 0} (st : Steady o In) 
 
 -- of whole numbers up to any largest, with minus and plus any one size
 pub demand3-whole : (top k : ℕ) → Demand3 (whole top) (negsuc k) (pos (suc k))
-unfolding below0
+unfolding hard
 demand3-whole top k = demand3 (whole top) (steady top) (negsuc k) (pos (suc k)) tt tt refl refl
 
 -- and so of i8, with -1 for a 1 bit and 1 for a 0 bit

@@ -20,7 +20,7 @@ use Rattle.encoder.specs.Rotation.{placed, rotated}
 use Rattle.report.specs.Report.{ending}
 use Rattle.bit_flip.specs.Outcome as flip
 use Rattle.bit_flip.proofs.Theorems.{clean, limit-none}
-use Rattle.min_sum.specs.Soft.{clamp, satAdd, satSub, size, below0}
+use Rattle.min_sum.specs.Soft.{clamp, add, subtract, magnitude, hard}
 use Rattle.min_sum.specs.Confidence.{i8}
 use Rattle.min_sum.specs.MinSum.{hardBits}
 use Rattle.min_sum.specs.Outcomes.{left, decodeAnswer, decodeOutcome}
@@ -50,7 +50,7 @@ module _ (old working : List ℕ) (old-long : length old ≡ 16) (working-long :
 
 -- ---- min-sum on zero LLRs
 zero-hard : (n : ℕ) → hardBits i8 (replicate n (pos 0)) ≡ (λ v. 0)
-unfolding below0
+unfolding hard
 zero-hard n = fun-ext (λ v. rw (replicate-at n (pos 0) v))
 
 module _ (code : ℕ) (old signs : List ℕ) (working : List ℤ) where
@@ -60,7 +60,7 @@ module _ (code : ℕ) (old signs : List ℕ) (working : List ℤ) where
   soft-once e =
       let n = rowOf code .n in
       let p = rowOf code .«punctured_bits» in
-      let lent = decode-lent code (rowOf code) n (length old) (length working) (length signs) e refl in
+      let lent = decode-lent code n (length old) (length working) (length signs) e in
       let long : length (replicate n (pos 0)) ≡ n = length-replicate n (pos 0) in
       let given : replicate n (pos 0) ++ replicate p (pos 0) ≡ replicate (n + p) (pos 0) = replicate-append-replicate n p (pos 0) in
       let bytes : length (replicate (n + p) (pos 0)) / 8 ≡ rowOf code .«output_len» =
@@ -75,7 +75,7 @@ unfolding rows
 whole-sheet = ap answerTo document-read ∙ ap flippedText (flip-once (zeros 16) (zeros 128) refl refl) ∙ document-printed
 
 pub examples : Examples
-unfolding clamp satAdd satSub size below0 rotated placed span pack rows generators encodedBytes decodeAnswer
+unfolding clamp add subtract magnitude hard rotated placed span pack rows generators encodedBytes decodeAnswer
 examples =
     record {
       identity = refl;

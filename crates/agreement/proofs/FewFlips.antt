@@ -16,7 +16,9 @@ use Rattle.min_sum.specs.Confidence.{whole}
 use Rattle.min_sum.specs.Hard.{toHard}
 use Rattle.soft_flip.specs.OneSize.{OneSize}
 use Rattle.soft_flip.proofs.Frames as softly
-use Rattle.agreement.specs.Parties.{Sent, toldFlip, toldSoft}
+use Rattle.bit_flip.specs.Outcome.{toldFlip}
+use Rattle.min_sum.specs.Outcomes.{toldSoft}
+use Rattle.agreement.specs.Parties.{Sent}
 use Rattle.agreement.specs.Demands.{FewFlipsReturn}
 use Rattle.agreement.specs.Ours.{HardBuffers, bitFlip, bitFlipping, SoftBuffers, minSum, minSumming, oneSized}
 use Rattle.agreement.proofs.Sender.{sent-bytes, sent-length, sent-meets}

@@ -17,7 +17,7 @@ use Rattle.matrices.proofs.Edges.{meets-same}
 use Rattle.matrices.proofs.Encoded.{encoded-meets, encoded-bits}
 use Rattle.report.specs.Report.{ending, Told, told}
 use Rattle.min_sum.specs.Confidence.{i8}
-use Rattle.min_sum.specs.Soft.{below0}
+use Rattle.min_sum.specs.Soft.{hard}
 use Rattle.min_sum.proofs.Conversions.{llrs-hard}
 use Rattle.soft_flip.proofs.Frames.{llrs-one-size}
 use Rattle.agreement.specs.Parties.{Sent, by-copy-encode}
@@ -210,7 +210,7 @@ flip-receives =
     }
 
 soft-receives : Receives (minSumming i8) Anything (minSum i8)
-unfolding below0
+unfolding hard
 soft-receives =
     record {
       lend = softLent;

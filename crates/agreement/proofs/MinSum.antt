@@ -22,13 +22,13 @@ use Rattle.report.specs.Report.{ending, Told}
 use Rattle.min_sum.specs.Confidence.{Confidence, Steady, Within, whole}
 use Rattle.min_sum.specs.MinSum.{Messages, hardBits, start, pass, met, turn, decoded}
 use Rattle.min_sum.specs.Hard.{toHard, toLlrs}
-use Rattle.min_sum.specs.Outcomes.{Outcome, Written, toLlrsOutcome}
+use Rattle.min_sum.specs.Outcomes.{Outcome, toldSoft, Written, toLlrsOutcome}
 use Rattle.min_sum.specs.Working.{Lent}
 use Rattle.min_sum.proofs.Answers.{decode-lent, decode-refused}
 use Rattle.min_sum.proofs.Conversions.{llrs-hard}
 use Rattle.codes.proofs.Codes.{roomy}
 use Rattle.min_sum.proofs.Success.{sized-state, accepted-is, says-true, at-once, given-bit, steady}
-use Rattle.agreement.specs.Parties.{toldSoft, ByMinSum}
+use Rattle.agreement.specs.Parties.{ByMinSum}
 use Rattle.agreement.specs.Demands.{DecodesByTable, SuccessMeets, FrameReturns, CountsPasses, DecodesAs}
 use Rattle.agreement.specs.Ours.{SoftBuffers, minSum, marginalsIn, minSumming, inSet}
 use Rattle.agreement.proofs.Sender.{sent-meets}
@@ -54,8 +54,8 @@ module _ {C : Type 0} (o : Confidence C) where
       output-is : minSum o code b limit .output ≡ toHard o (ran limit .state .marginals)
       output-is = ap (λ (x : Outcome C). x .output) (accepted-is o code (b .llrs) (b .output) (b .working) (b .signs) limit h)
 
-      lent : Lent code (rowOf code) (length (b .llrs)) (length (b .output)) (length (b .working))
-      lent = decode-lent code (rowOf code) (length (b .llrs)) (length (b .output)) (length (b .working)) (length (b .signs)) h refl
+      lent : Lent code (length (b .llrs)) (length (b .output)) (length (b .working))
+      lent = decode-lent code (length (b .llrs)) (length (b .output)) (length (b .working)) (length (b .signs)) h
 
       -- the output is bytes, as many as the code has
       pub min-sum-bytes : Bytes (minSum o code b limit .output)

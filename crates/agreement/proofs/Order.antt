@@ -14,7 +14,7 @@ use Rattle.codes.specs.Codes.{rows, tables}
 use Rattle.codes.specs.Blocks.{blockOf, cellBlocks, rowBlocks, lastRows}
 use Rattle.codes.specs.Edges.{edgeAt, blockEdges, blocksOf, edges}
 use Rattle.report.specs.Report.{Told}
-use Rattle.min_sum.specs.Soft.{clamp, satAdd, satSub, negated, size, below0, alike, lower}
+use Rattle.min_sum.specs.Soft.{clamp, add, subtract, negate, magnitude, hard, same, less}
 use Rattle.min_sum.specs.Confidence.{i8}
 use Rattle.min_sum.specs.MinSum.{Messages, hardBits, numbered, addMessage, takeMessage, restarted, renewed, start, pass, turn}
 use Rattle.min_sum.specs.Hard.{toHard, toLlrs}
@@ -61,11 +61,11 @@ back-first =
 
 -- the second another bit 9
 next-bit : hardBits i8 (next (next begun) .marginals) 9 ≡ 0
-unfolding rows tables prototypes thetas phis blockOf cellBlocks rowBlocks lastRows flatMap blocksOf edges blockEdges edgeAt span fold clamp satAdd satSub negated size below0 alike lower numbered addMessage takeMessage restarted renewed start pass toLlrs
+unfolding rows tables prototypes thetas phis blockOf cellBlocks rowBlocks lastRows flatMap blocksOf edges blockEdges edgeAt span fold clamp add subtract negate magnitude hard same less numbered addMessage takeMessage restarted renewed start pass toLlrs
 next-bit = refl
 
 back-bit : hardBits i8 (back (back begun) .marginals) 9 ≡ 1
-unfolding rows tables prototypes thetas phis blockOf cellBlocks rowBlocks lastRows flatMap blocksOf edges blockEdges edgeAt span fold clamp satAdd satSub negated size below0 alike lower numbered addMessage takeMessage restarted renewed start toLlrs
+unfolding rows tables prototypes thetas phis blockOf cellBlocks rowBlocks lastRows flatMap blocksOf edges blockEdges edgeAt span fold clamp add subtract negate magnitude hard same less numbered addMessage takeMessage restarted renewed start toLlrs
 back-bit = refl
 
 pub another-order : DecodesAs (minSumming i8) (addsBackwards i8) → ⊥

@@ -39,8 +39,8 @@ use Rattle.sheet_text.specs.Printing.{printed, maxOutput, answerOf}
 use Rattle.sheet.specs.Sheet.{sheetOf}
 use Rattle.measure.specs.Sum.{sumOf}
 
--- what two outcomes both equal makes them equal
-one : {A : Type 0} {x y z : A} → x ≡ z → y ≡ z → x ≡ y
+-- what two outcomes both equal makes them equal: of a function whose promise is one equation for its answer this is the theorem
+pub one : {A : Type 0} {x y z : A} → x ≡ z → y ≡ z → x ≡ y
 one p q = p ∙ sym q
 
 -- ---- bits
@@ -130,19 +130,19 @@ pub copy-encode-one : (code : ℕ) (message codeword : List ℕ) {a a′ : ℕ} 
 copy-encode-one code message codeword p q = encoded-parts (one p q)
 
 -- ---- bit_flip: the report, the output and the working buffer
-pub decode-bf-one : (code : ℕ) (input output working : List ℕ) (maxiters : ℕ) {r r′ : Report} {o o′ w w′ : List ℕ}
-    → flip.left r o w ≡ flip.outcome code input output working maxiters → flip.left r′ o′ w′ ≡ flip.outcome code input output working maxiters
+pub decode-bf-one : (code : ℕ) (input output working : List ℕ) (limit : ℕ) {r r′ : Report} {o o′ w w′ : List ℕ}
+    → flip.left r o w ≡ flip.outcome code input output working limit → flip.left r′ o′ w′ ≡ flip.outcome code input output working limit
     → (r ≡ r′) × (o ≡ o′) × (w ≡ w′)
-decode-bf-one code input output working maxiters p q =
+decode-bf-one code input output working limit p q =
     let e = one p q in
     (ap (λ (x : flip.Outcome). x .report) e, ap (λ (x : flip.Outcome). x .output) e, ap (λ (x : flip.Outcome). x .working) e)
 
 -- ---- min_sum: the report, the output and both working buffers; the answer and the buffer that is written
-pub decode-ms-i8-one : (code : ℕ) (llrs : List ℤ) (output : List ℕ) (working : List ℤ) (signs : List ℕ) (maxiters : ℕ)
+pub decode-ms-i8-one : (code : ℕ) (llrs : List ℤ) (output : List ℕ) (working : List ℤ) (signs : List ℕ) (limit : ℕ)
     {r r′ : Report} {o o′ : List ℕ} {w w′ : List ℤ} {s s′ : List ℕ}
-    → left r o w s ≡ decodeOutcome i8 code llrs output working signs maxiters → left r′ o′ w′ s′ ≡ decodeOutcome i8 code llrs output working signs maxiters
+    → left r o w s ≡ decodeOutcome i8 code llrs output working signs limit → left r′ o′ w′ s′ ≡ decodeOutcome i8 code llrs output working signs limit
     → (r ≡ r′) × (o ≡ o′) × (w ≡ w′) × (s ≡ s′)
-decode-ms-i8-one code llrs output working signs maxiters p q =
+decode-ms-i8-one code llrs output working signs limit p q =
     let e = one p q in (
       ap (λ (x : Outcome ℤ). x .report) e,
       ap (λ (x : Outcome ℤ). x .output) e,
@@ -176,10 +176,10 @@ pub ldpc-copy-encode-one : (code : ℕ) (message codeword : List ℕ) {a a′ : 
     → encoded a s ≡ copyEncodeOutcome code message codeword → encoded a′ s′ ≡ copyEncodeOutcome code message codeword → (a ≡ a′) × (s ≡ s′)
 ldpc-copy-encode-one = copy-encode-one
 
-pub ldpc-decode-bf-one : (code : ℕ) (input output working : List ℕ) (maxiters : ℕ) {a a′ b b′ n n′ : ℕ} {o o′ w w′ : List ℕ}
-    → hard a b n o w ≡ hardDoor (flip.outcome code input output working maxiters) → hard a′ b′ n′ o′ w′ ≡ hardDoor (flip.outcome code input output working maxiters)
+pub ldpc-decode-bf-one : (code : ℕ) (input output working : List ℕ) (limit : ℕ) {a a′ b b′ n n′ : ℕ} {o o′ w w′ : List ℕ}
+    → hard a b n o w ≡ hardDoor (flip.outcome code input output working limit) → hard a′ b′ n′ o′ w′ ≡ hardDoor (flip.outcome code input output working limit)
     → (a ≡ a′) × (b ≡ b′) × (n ≡ n′) × (o ≡ o′) × (w ≡ w′)
-ldpc-decode-bf-one code input output working maxiters p q =
+ldpc-decode-bf-one code input output working limit p q =
     let e = one p q in (
       ap (λ (x : Hard). x .answer) e,
       ap (λ (x : Hard). x .success) e,
@@ -188,12 +188,12 @@ ldpc-decode-bf-one code input output working maxiters p q =
       ap (λ (x : Hard). x .working) e,
     )
 
-pub ldpc-decode-ms-i8-one : (code : ℕ) (llrs : List ℤ) (output : List ℕ) (working : List ℤ) (signs : List ℕ) (maxiters : ℕ)
+pub ldpc-decode-ms-i8-one : (code : ℕ) (llrs : List ℤ) (output : List ℕ) (working : List ℤ) (signs : List ℕ) (limit : ℕ)
     {a a′ b b′ n n′ : ℕ} {o o′ : List ℕ} {w w′ : List ℤ} {s s′ : List ℕ}
-    → soft a b n o w s ≡ softDoor (decodeOutcome i8 code llrs output working signs maxiters)
-    → soft a′ b′ n′ o′ w′ s′ ≡ softDoor (decodeOutcome i8 code llrs output working signs maxiters)
+    → soft a b n o w s ≡ softDoor (decodeOutcome i8 code llrs output working signs limit)
+    → soft a′ b′ n′ o′ w′ s′ ≡ softDoor (decodeOutcome i8 code llrs output working signs limit)
     → (a ≡ a′) × (b ≡ b′) × (n ≡ n′) × (o ≡ o′) × (w ≡ w′) × (s ≡ s′)
-ldpc-decode-ms-i8-one code llrs output working signs maxiters p q =
+ldpc-decode-ms-i8-one code llrs output working signs limit p q =
     let e = one p q in (
       ap (λ (x : Soft). x .answer) e,
       ap (λ (x : Soft). x .success) e,

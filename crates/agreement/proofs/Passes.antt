@@ -34,16 +34,15 @@ use Rattle.bit_flip.specs.Outcome as flip
 use Rattle.bit_flip.specs.Steps.{Bits}
 use Rattle.bit_flip.proofs.Scores.{flipped-length, flipped-bits}
 use Rattle.bit_flip.proofs.Calls.{received-bits}
-use Rattle.min_sum.specs.Soft.{clamp, satAdd, satSub, negated, size, below0, alike, lower}
+use Rattle.min_sum.specs.Soft.{clamp, add, subtract, negate, magnitude, hard, same, less}
 use Rattle.min_sum.specs.Confidence.{i8}
 use Rattle.min_sum.specs.MinSum as soft
 use Rattle.min_sum.specs.Hard.{toHard, toLlrs}
-use Rattle.min_sum.specs.Outcomes.{decodeAnswer}
+use Rattle.min_sum.specs.Outcomes.{toldSoft, decodeAnswer}
 use Rattle.min_sum.proofs.Conversions.{llrs-length, llrs-bits}
 use Rattle.min_sum.proofs.Marginals.{pass-length, first-hard}
 use Rattle.min_sum.proofs.Packed.{hard-bit}
 use Rattle.min_sum.proofs.Success.{accepted-is, steady}
-use Rattle.agreement.specs.Parties.{toldSoft}
 use Rattle.agreement.specs.Ours.{HardBuffers, bitFlip, SoftBuffers, minSum, minSumming}
 use Rattle.agreement.specs.Examples.{zeros}
 
@@ -205,14 +204,14 @@ ran limit = run (soft.turn i8 (edges 0) 64 0 llrs) limit 0 begun
 
 -- the LLRs have the bits of the word; a first pass leaves these, the second another bit 0
 pub given-bits : (v : ℕ) → soft.hardBits i8 (llrs ++ []) v ≡ bitAt spoilt v
-unfolding below0
+unfolding hard
 given-bits v = ap (λ (xs : List ℤ). soft.hardBits i8 xs v) (append-nil llrs) ∙ llrs-bits i8 (negsuc 99) (pos 100) refl refl refl spoilt v
 
 pub first-bits : soft.hardBits i8 (next begun .marginals) ≡ bitAt spoilt
 first-bits = fun-ext (λ v. ap (λ (b : Bool). pick b 1 0) (first-hard i8 (steady 127) (edges 0) 64 0 llrs (λ i. tt) v) ∙ given-bits v)
 
 second-bit : soft.hardBits i8 (next (next begun) .marginals) 0 ≡ 0
-unfolding rows tables prototypes thetas phis blockOf cellBlocks rowBlocks lastRows flatMap blocksOf edges blockEdges edgeAt span fold clamp satAdd satSub negated size below0 alike lower soft.numbered soft.addMessage soft.takeMessage soft.restarted soft.renewed soft.start soft.pass toLlrs
+unfolding rows tables prototypes thetas phis blockOf cellBlocks rowBlocks lastRows flatMap blocksOf edges blockEdges edgeAt span fold clamp add subtract negate magnitude hard same less soft.numbered soft.addMessage soft.takeMessage soft.restarted soft.renewed soft.start soft.pass toLlrs
 second-bit = refl
 
 -- a run of passes, whichever they are, whose first leaves the bits of the word

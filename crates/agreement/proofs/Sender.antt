@@ -1,5 +1,4 @@
 -- What an encoder that accepts leaves is the frame of its message: `encode` and `copy_encode` meet the demands, and so does what is sent. Assumes nothing.
-use mathlib.Core.Bool.{not}
 use mathlib.Core.List.{List}
 use mathlib.Core.Path.{_≡_, refl, sym, ap, _∙_, subst}
 use Prim.Native.Nat.{ℕ, _/_, _≤_, _<_}
@@ -10,16 +9,15 @@ use lib.Seq.{length-take-le}
 use Rattle.maths.specs.Bits.{bitAt}
 use Rattle.maths.specs.Bytes.{Bytes}
 use Rattle.maths.proofs.Bytes.{bytes-take}
-use Rattle.codes.specs.Answers.{unlike}
-use Rattle.codes.specs.Codes.{Known, known, TC, TM, rowOf}
+use Rattle.codes.specs.Codes.{Known, TC, TM, rowOf}
 use Rattle.codes.specs.Equations.{Meets}
 use Rattle.codes.specs.Frames.{frameOf, encodedBytes}
-use Rattle.codes.proofs.Answers.{passed, passed-known, passed-length}
+use Rattle.codes.proofs.Answers.{all-passed, passed-known, passed-length}
 use Rattle.matrices.proofs.Sizes.{sizes}
 use Rattle.matrices.proofs.Encoded.{encoded-meets, encoded-length, encoded-bytes, encoded-bits}
 use Rattle.telemetry.specs.Completion.{completionBytes, Completes}
 use Rattle.telemetry.proofs.Clean as clean
-use Rattle.encoder.specs.Outcomes.{Encoded, encoded, encodeOutcome, copyEncodeOutcome}
+use Rattle.encoder.specs.Outcomes.{Encoded, encoded, encodeTests, copyTests, encodeOutcome, copyEncodeOutcome}
 use Rattle.agreement.specs.Parties.{Sent, by-encode, by-copy-encode}
 use Rattle.agreement.specs.Demands.{EncodesByTable, EncodesData, FrameMeets}
 use Rattle.agreement.specs.Ours.{encoder, encoding, copyEncoder, copyEncoding}
@@ -35,17 +33,15 @@ data-fits code s h l = omega (arith, sizes code h .data-fits)
 
 pub encode-frames : (code : ℕ) (s : List ℕ) → encodeOutcome code s .answer ≡ 0 → Frames code (take (rowOf code .k / 8) s) (encodeOutcome code s .codeword)
 encode-frames code s e =
-    let t₁ = passed (not (known code)) 0 e in
-    let t₂ = passed (unlike (length s) (rowOf code .n / 8)) 2 (t₁ .1) in
-    let h = passed-known code (t₁ .0) in
-    let l = passed-length (length s) (rowOf code .n / 8) (t₂ .0) in
+    let q = all-passed (encodeTests code (length s)) tt e in
+    let h = passed-known code (q .0) in
+    let l = passed-length (length s) (rowOf code .n / 8) (q .1 .0) in
     record { is-known = h; long = length-take-le (rowOf code .k / 8) s (data-fits code s h l); is = rw (eq-eqb _ 0 e) }
 
 pub copy-frames : (code : ℕ) (m s : List ℕ) → copyEncodeOutcome code m s .answer ≡ 0 → Frames code m (copyEncodeOutcome code m s .codeword)
 copy-frames code m s e =
-    let t₁ = passed (not (known code)) 0 e in
-    let t₂ = passed (unlike (length m) (rowOf code .k / 8)) 1 (t₁ .1) in
-    record { is-known = passed-known code (t₁ .0); long = passed-length (length m) (rowOf code .k / 8) (t₂ .0); is = rw (eq-eqb _ 0 e) }
+    let q = all-passed (copyTests code (length m) (length s)) tt e in
+    record { is-known = passed-known code (q .0); long = passed-length (length m) (rowOf code .k / 8) (q .1 .0); is = rw (eq-eqb _ 0 e) }
 
 module _ {code : ℕ} {message frame : List ℕ} (f : Frames code message frame) where
   frames-bits : (v : ℕ) → v < rowOf code .n → bitAt frame v ≡ frameOf code (bitAt message) v

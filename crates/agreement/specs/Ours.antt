@@ -12,14 +12,13 @@ use Rattle.report.specs.Report.{ending, told}
 use Rattle.encoder.specs.Outcomes.{encodeTests, copyTests, encodeOutcome, copyEncodeOutcome}
 use Rattle.bit_flip.specs.Flip.{flipped}
 use Rattle.bit_flip.specs.Erasures.{erasurePasses}
-use Rattle.bit_flip.specs.Outcome.{received, punctured, decoded, tests, outcome}
+use Rattle.bit_flip.specs.Outcome.{toldFlip, received, punctured, decoded, tests, outcome}
 use Rattle.min_sum.specs.Confidence.{Confidence, Within}
 use Rattle.min_sum.specs.MinSum.{hardBits, start, pass}
 use Rattle.min_sum.specs.MinSum as soft
 use Rattle.min_sum.specs.Hard.{toHard}
-use Rattle.min_sum.specs.Outcomes.{decodeAnswer, decodeOutcome}
+use Rattle.min_sum.specs.Outcomes.{toldSoft, decodeAnswer, decodeOutcome}
 use Rattle.soft_flip.specs.OneSize.{OneSize}
-use Rattle.agreement.specs.Parties.{toldFlip, toldSoft}
 use Rattle.agreement.specs.Demands.{Encoder, Sending, Decoder, Receiving}
 
 -- ---- `encode` is lent the codeword, whose first k/8 bytes are the message

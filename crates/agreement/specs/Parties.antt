@@ -17,13 +17,6 @@ pub data Sent (code : ℕ) (frame : List ℕ) : Type 0 where
   by-copy-encode : (answer : ℕ) (message codeword : List ℕ) → Bytes message → encoded answer frame ≡ copyEncodeOutcome code message codeword
       → answer ≡ 0 → Sent code frame
 
--- what is told of an outcome of bit flipping, and of min-sum
-abbrev pub toldFlip : flip.Outcome → Told
-toldFlip x = told (x .report) (x .output)
-
-abbrev pub toldSoft : {C : Type 0} → soft.Outcome C → Told
-toldSoft x = told (x .report) (x .output)
-
 -- an answer as it is received: a call of a decoder, on any confidences and whatever it was lent, left this report and these bytes in the output
 pub data Answered (code : ℕ) (x : Told) : Type 1 where
   by-bit-flipping : (input old working working′ : List ℕ) (limit : ℕ)

@@ -27,12 +27,11 @@ use Rattle.codes.specs.Answers.{test, firstOf, orTest, unlike}
 use Rattle.codes.specs.Codes.{rowOf, paramsOf, bitsIn, checksIn, maxChecks}
 use Rattle.codes.specs.Edges.{Edge, edges}
 use Rattle.codes.specs.Equations.{wordOf}
-use Rattle.codes.specs.Sound.{Roomy}
 use Rattle.codes.proofs.Answers.{Passed, answered, all-passed, passed-known, passed-length}
 use Rattle.codes.proofs.Codes.{roomy}
 use Rattle.runs.specs.declared.Runs.{Runs}
 use Rattle.runs.specs.Runs.{runsOf, laid}
-use Rattle.runs.proofs.Parity.{laid-runs, runs-fit, runs-room, runs-lent, runs-taken, zeros, zeros-lent}
+use Rattle.runs.proofs.Parity.{laid-runs, runs-fit, runs-room, runs-lent, runs-taken, zeros, zeros-lent, bits-fit, data-low, checks-few, checks-lent}
 use Rattle.runs.proofs.Degrees.{few-edges}
 use Rattle.report.specs.declared.Report.{Report}
 use Rattle.report.specs.Report.{refusal, ending}
@@ -96,20 +95,8 @@ pub ruleset decodes = (received-by, received-bits, few-moved, first-by, first-bi
 
 -- ---- an accepted call
 module _ (code : ℕ) (row : CodeParams) (input working : ℕ) (a : Accepted code row input working) where
-  row-roomy : Roomy row
-  row-roomy = rw (a .is-row) (roomy code (a .known))
-
   bits-are : working ≡ bitsIn code
   bits-are = a .working-long ∙ roomy code (a .known) .working
-
-  pub bits-fit : Fits w64 (row .n + row .«punctured_bits»)
-  bits-fit = record { fits = omega (arith, row-roomy .bits) }
-
-  pub data-low : row .k ≤ row .n + row .«punctured_bits»
-  data-low = omega (arith, row-roomy .k-low)
-
-  pub checks-few : row .n + row .«punctured_bits» - row .k ≤ maxChecks
-  checks-few = row-roomy .checks
 
   pub whole-input : 8 * input ≡ row .n
   whole-input = rw (a .input-long, a .is-row) (roomy code (a .known) .sent)
@@ -117,14 +104,11 @@ module _ (code : ℕ) (row : CodeParams) (input working : ℕ) (a : Accepted cod
   pub sent-low : row .n ≤ working
   sent-low = rw (bits-are, a .is-row) (omega arith)
 
-  abbrev checks-lent : List ℕ
-  checks-lent = zeros maxChecks (row .n + row .«punctured_bits» - row .k)
-
-  checks-are : length checks-lent ≡ checksIn code
-  checks-are = sym (zeros-lent maxChecks _ checks-few) ∙ rw (a .is-row)
+  checks-are : length (zeros maxChecks (row .n + row .«punctured_bits» - row .k)) ≡ checksIn code
+  checks-are = checks-lent code row (a .is-row) (a .known)
 
   module _ (q : Runs) (e : q ≡ runsOf code) where
-    edges-are : laid (length checks-lent) working (take (3 * q .count) (q .triples)) ≡ edges code
+    edges-are : laid (length (zeros maxChecks (row .n + row .«punctured_bits» - row .k))) working (take (3 * q .count) (q .triples)) ≡ edges code
     edges-are = rw (runs-taken code q e, checks-are, bits-are) (laid-runs code (a .known))
 
     pub few-lent : FewEdges (laid (length (zeros maxChecks (row .n + row .«punctured_bits» - row .k))) working (take (3 * q .count) (q .triples)))

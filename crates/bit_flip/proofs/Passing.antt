@@ -79,8 +79,4 @@ module _ {ns : List ℕ} {m n limit k m′ n′ : ℕ} {w₀ w : List ℕ} where
           ran = run-more (pass (laid m n ns) m) limit k w (p .ran) h g;
         }
 
--- a length that two calls kept
-pub kept-by : (k l m : ℕ) → k ≡ l → l ≡ m → k ≡ m
-kept-by k l m p q = p ∙ q
-
-pub ruleset passing = (flip-by, few-moved, broken-moved, pass-stops, pass-goes, passing-first, passing-last, passing-few, passing-stop, passing-more, kept-by, needs)
+pub ruleset passing = (flip-by, few-moved, broken-moved, pass-stops, pass-goes, passing-first, passing-last, passing-few, passing-stop, passing-more, needs)

@@ -165,7 +165,7 @@ module _ (code limit : ℕ) (input output working s : List ℕ) (e : answerOf co
   unfolding decoded decodeWord
   outcome-from = is-accepted code input output working limit e ∙ rw (begun, add-zero (after .turns))
 
-  -- s itself with (true, 0), if it meets the equations and maxiters is at least 1
+  -- s itself with (true, 0), if it meets the equations and limit is at least 1
   pub ends-at-once : Meets code (wordOf s) → 1 ≤ limit
       → outcome code input output working limit ≡ left (ending true 0) (pack (wordOf s) (rowOf code .«output_len»)) (replicate (bitsIn code) 0)
   ends-at-once meets h =
@@ -192,7 +192,7 @@ module _ (code : ℕ) (tc : TC code) (limit : ℕ) (input : List ℕ) where
       (passes-length (edges code) (checksIn code) limit (received code input) ∙ span-length (bitAt input) 0 (bitsIn code) ∙ sym (roomy code (omega arith) .whole))
       (passes-bits (edges code) (checksIn code) limit (received code input) (received-bits input (bitsIn code) refl))
 
--- a TC word that meets the equations comes back with (true, 0), where maxiters is at least 1
+-- a TC word that meets the equations comes back with (true, 0), where limit is at least 1
 pub clean : (code : ℕ) (input output working : List ℕ) (limit : ℕ) → TC code → answerOf code input output working ≡ 0 → Bytes input
     → Meets code (bitAt input) → 1 ≤ limit → outcome code input output working limit ≡ left (ending true 0) input (replicate (bitsIn code) 0)
 clean code input output working limit tc e bytes meets h =
@@ -205,7 +205,7 @@ clean code input output working limit tc e bytes meets h =
     ends-at-once code limit input output working (received code input) e (none-erased code tc limit input) (subst (Meets code) (sym w) meets) h
     ∙ rw (o, w, pack-again input bytes)
 
--- with maxiters 0: (false, 0) and the input followed by zeros, whatever the input
+-- with limit 0: (false, 0) and the input followed by zeros, whatever the input
 pub limit-none : (code : ℕ) (input output working : List ℕ) → answerOf code input output working ≡ 0 → Bytes input
     → outcome code input output working 0 ≡ left (ending false 0) (input ++ replicate (rowOf code .«output_len» - length input) 0) (replicate (bitsIn code) 0)
 unfolding run

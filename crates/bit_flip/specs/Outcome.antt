@@ -13,7 +13,7 @@ use Rattle.codes.specs.Codes.{known, rowOf, bitsIn, checksIn}
 use Rattle.codes.specs.Edges.{Edge, edges}
 use Rattle.codes.specs.Equations.{wordOf}
 use Rattle.report.specs.declared.Report.{Report}
-use Rattle.report.specs.Report.{refusal, ending}
+use Rattle.report.specs.Report.{refusal, ending, Told, told}
 use Rattle.bit_flip.specs.Flip.{passes}
 use Rattle.bit_flip.specs.Erasures.{erasurePasses, fromOn}
 
@@ -25,6 +25,10 @@ pub record Outcome : Type 0 where
 
 abbrev pub left : Report → List ℕ → List ℕ → Outcome
 left r o w = record { report = r; output = o; working = w }
+
+-- what is told of it
+abbrev pub toldFlip : Outcome → Told
+toldFlip x = told (x .report) (x .output)
 
 -- the report, and the word that the passes leave
 pub record Decoded : Type 0 where

@@ -122,15 +122,15 @@ pub(crate) fn decode_erasures(
     n: usize,
     bits: &mut [u8],
     checks: &mut [u8],
-    maxiters: usize,
+    limit: usize,
 ) -> usize
     requires { ⌜ (Bits (now bits)) × (FewEdges (laid (length (now checks)) (length (now bits)) (now triples))) ⌝ }
-    ensures { λ r. ⌜ filled (now (bits .exit)) r ≡ erasurePasses (fromOn n (length (now (bits .entry)))) (laid (length (now (checks .entry))) (length (now (bits .entry))) (now (triples .entry))) (length (now (bits .entry)) - n) maxiters (now (bits .entry)) ⌝ }
+    ensures { λ r. ⌜ filled (now (bits .exit)) r ≡ erasurePasses (fromOn n (length (now (bits .entry)))) (laid (length (now (checks .entry))) (length (now (bits .entry))) (now (triples .entry))) (length (now (bits .entry)) - n) limit (now (bits .entry)) ⌝ }
 {
     if n >= bits.len() {
         return 0;
     }
-    if maxiters == 0 {
+    if limit == 0 {
         return 0;
     }
     set_from(bits, n, 2);

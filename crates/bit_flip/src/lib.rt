@@ -45,13 +45,13 @@ fn first_word(
     triples: &[u16],
     bits: &mut [u8],
     checks: &mut [u8],
-    maxiters: usize,
+    limit: usize,
 ) -> usize
     requires { ⌜ (8 * length (now input) ≡ n) × (n ≤ length (now bits)) × (FewEdges (laid (length (now checks)) (length (now bits)) (now triples))) ⌝ }
-    ensures { λ r. ⌜ filled (now (bits .exit)) r ≡ erasurePasses (fromOn n (length (now (bits .entry)))) (laid (length (now (checks .entry))) (length (now (bits .entry))) (now (triples .entry))) (length (now (bits .entry)) - n) maxiters (span (bitAt (now (input .entry))) 0 (length (now (bits .entry)))) ⌝ }
+    ensures { λ r. ⌜ filled (now (bits .exit)) r ≡ erasurePasses (fromOn n (length (now (bits .entry)))) (laid (length (now (checks .entry))) (length (now (bits .entry))) (now (triples .entry))) (length (now (bits .entry)) - n) limit (span (bitAt (now (input .entry))) 0 (length (now (bits .entry)))) ⌝ }
 {
     receive(input, n, bits);
-    decode_erasures(triples, n, bits, checks, maxiters)
+    decode_erasures(triples, n, bits, checks, limit)
 }
 
 // All passes over the word that was received.
@@ -61,26 +61,20 @@ fn decode_bits(
     triples: &[u16],
     bits: &mut [u8],
     checks: &mut [u8],
-    maxiters: usize,
+    limit: usize,
 ) -> Report
     requires { ⌜ (8 * length (now input) ≡ n) × (n ≤ length (now bits)) × (FewEdges (laid (length (now checks)) (length (now bits)) (now triples))) ⌝ }
-    ensures { λ r. ⌜ decodedTo r (now (bits .exit)) ≡ decodeWord (laid (length (now (checks .entry))) (length (now (bits .entry))) (now (triples .entry))) (length (now (checks .entry))) (fromOn n (length (now (bits .entry)))) (length (now (bits .entry)) - n) maxiters (span (bitAt (now (input .entry))) 0 (length (now (bits .entry)))) ⌝ }
+    ensures { λ r. ⌜ decodedTo r (now (bits .exit)) ≡ decodeWord (laid (length (now (checks .entry))) (length (now (bits .entry))) (now (triples .entry))) (length (now (checks .entry))) (fromOn n (length (now (bits .entry)))) (length (now (bits .entry)) - n) limit (span (bitAt (now (input .entry))) 0 (length (now (bits .entry)))) ⌝ }
 {
-    let count = first_word(input, n, triples, bits, checks, maxiters);
-    let e = run_passes(triples, bits, checks, maxiters);
+    let count = first_word(input, n, triples, bits, checks, limit);
+    let e = run_passes(triples, bits, checks, limit);
     finished(e.success, e.iters + count)
 }
 
 // The word of a known code, from what was received, one byte a bit.
-fn decode_word(
-    code: usize,
-    row: CodeParams,
-    input: &[u8],
-    bits: &mut [u8],
-    maxiters: usize,
-) -> Report
+fn decode_word(code: usize, row: CodeParams, input: &[u8], bits: &mut [u8], limit: usize) -> Report
     requires { ⌜ Accepted code row (length (now input)) (length (now bits)) ⌝ }
-    ensures { λ r. ⌜ decodedTo r (now (bits .exit)) ≡ decodedWord code (now (input .entry)) maxiters ⌝ }
+    ensures { λ r. ⌜ decodedTo r (now (bits .exit)) ≡ decodedWord code (now (input .entry)) limit ⌝ }
 {
     let n = row.n;
     let m = n + row.punctured_bits - row.k;
@@ -88,7 +82,7 @@ fn decode_word(
     let runs = runs_of(code);
     let end = 3 * runs.count;
     let triples = runs.triples;
-    decode_bits(input, n, &triples[..end], bits, &mut checks[..m], maxiters)
+    decode_bits(input, n, &triples[..end], bits, &mut checks[..m], limit)
 }
 
 // The bits stand in the lent working buffer, which is cleared at the end.
@@ -98,12 +92,12 @@ fn decode(
     input: &[u8],
     output: &mut [u8],
     working: &mut [u8],
-    maxiters: usize,
+    limit: usize,
 ) -> Report
     requires { ⌜ (Accepted code row (length (now input)) (length (now working))) × (length (now output) ≡ rowOf code .«output_len») ⌝ }
-    ensures { λ r. ⌜ left r (now (output .exit)) (now (working .exit)) ≡ decoded code (now (input .entry)) maxiters ⌝ }
+    ensures { λ r. ⌜ left r (now (output .exit)) (now (working .exit)) ≡ decoded code (now (input .entry)) limit ⌝ }
 {
-    let report = decode_word(code, row, input, working, maxiters);
+    let report = decode_word(code, row, input, working, limit);
     bits::pack(working, output);
     bits::clear(working);
     report
@@ -125,14 +119,14 @@ pub fn decode_bf(
     input: &[u8],
     output: &mut [u8],
     working: &mut [u8],
-    maxiters: usize,
+    limit: usize,
 ) -> Report
-    ensures { λ r. ⌜ left r (now (output .exit)) (now (working .exit)) ≡ outcome code (now (input .entry)) (now (output .entry)) (now (working .entry)) maxiters ⌝ }
+    ensures { λ r. ⌜ left r (now (output .exit)) (now (working .exit)) ≡ outcome code (now (input .entry)) (now (output .entry)) (now (working .entry)) limit ⌝ }
 {
     let answer = answer_of(code, input.len(), output.len(), working.len());
     if answer != ACCEPTED {
         return refused(answer);
     }
     let row = params(code).row;
-    decode(code, row, input, output, working, maxiters)
+    decode(code, row, input, output, working, limit)
 }

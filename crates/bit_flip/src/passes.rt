@@ -85,17 +85,12 @@ fn one_pass(triples: &[u16], bits: &mut [u8], checks: &mut [u8]) -> bool
     false
 }
 
-pub(crate) fn run_passes(
-    triples: &[u16],
-    bits: &mut [u8],
-    checks: &mut [u8],
-    maxiters: usize,
-) -> Ended
+pub(crate) fn run_passes(triples: &[u16], bits: &mut [u8], checks: &mut [u8], limit: usize) -> Ended
     requires { ⌜ (Bits (now bits)) × (FewEdges (laid (length (now checks)) (length (now bits)) (now triples))) ⌝ }
-    ensures { λ r. ⌜ end (r .success) (r .iters) (now (bits .exit)) ≡ passes (laid (length (now (checks .entry))) (length (now (bits .entry))) (now (triples .entry))) (length (now (checks .entry))) maxiters (now (bits .entry)) ⌝ }
+    ensures { λ r. ⌜ end (r .success) (r .iters) (now (bits .exit)) ≡ passes (laid (length (now (checks .entry))) (length (now (bits .entry))) (now (triples .entry))) (length (now (checks .entry))) limit (now (bits .entry)) ⌝ }
 {
     let mut pass = 0;
-    while pass < maxiters {
+    while pass < limit {
         if one_pass(triples, bits, checks) {
             return Ended {
                 success: true,
@@ -106,6 +101,6 @@ pub(crate) fn run_passes(
     }
     Ended {
         success: false,
-        iters: maxiters,
+        iters: limit,
     }
 }

@@ -56,8 +56,8 @@ fn flip(code: usize, input: &[u8], output: &mut [u8], working: &mut [u8]) {
 
 fn soft(code: usize, input: &[u8], output: &mut [u8], working: &mut [i8], signs: &mut [u8]) {
     let mut llrs = [0i8; 128];
-    min_sum::llrs::hard_to_llrs_i8(0, input, &mut llrs);
-    let r = min_sum::decode_ms_i8(code, &llrs, output, working, signs, 20);
+    confidence_i8::llrs::hard_to_llrs_i8(0, input, &mut llrs);
+    let r = min_sum_i8::decode_ms_i8(code, &llrs, output, working, signs, 20);
     show(r, output);
 }
 

@@ -63,14 +63,14 @@ pub extern "C" fn ldpc_copy_encode(code: usize, data: &[u8], codeword: &mut [u8]
 pub extern "C" fn ldpc_hard_to_llrs_i8(code: usize, input: &[u8], llrs: &mut [i8]) -> u8
     ensures { λ r. ⌜ written r (now (llrs .exit)) ≡ toLlrsOutcome (negsuc 0) (pos 1) code (now (input .entry)) (now (llrs .entry)) ⌝ }
 {
-    min_sum::llrs::hard_to_llrs_i8(code, input, llrs)
+    confidence_i8::llrs::hard_to_llrs_i8(code, input, llrs)
 }
 
 #[no_mangle]
 pub extern "C" fn ldpc_llrs_to_hard_i8(code: usize, llrs: &[i8], output: &mut [u8]) -> u8
     ensures { λ r. ⌜ written r (now (output .exit)) ≡ toHardOutcome i8 code (now (llrs .entry)) (now (output .entry)) ⌝ }
 {
-    min_sum::llrs::llrs_to_hard_i8(code, llrs, output)
+    confidence_i8::llrs::llrs_to_hard_i8(code, llrs, output)
 }
 
 // 1 for true, 0 for false.
@@ -86,13 +86,13 @@ pub extern "C" fn ldpc_decode_bf(
     input: &[u8],
     output: &mut [u8],
     working: &mut [u8],
-    maxiters: usize,
+    limit: usize,
     success: &mut u8,
     iters: &mut usize,
 ) -> u8
-    ensures { λ r. ⌜ hard r (now (success .exit)) (now (iters .exit)) (now (output .exit)) (now (working .exit)) ≡ hardDoor (outcome code (now (input .entry)) (now (output .entry)) (now (working .entry)) maxiters) ⌝ }
+    ensures { λ r. ⌜ hard r (now (success .exit)) (now (iters .exit)) (now (output .exit)) (now (working .exit)) ≡ hardDoor (outcome code (now (input .entry)) (now (output .entry)) (now (working .entry)) limit) ⌝ }
 {
-    let r = bit_flip::decode_bf(code, input, output, working, maxiters);
+    let r = bit_flip::decode_bf(code, input, output, working, limit);
     *success = as_byte(r.success);
     *iters = r.iters;
     r.answer
@@ -105,13 +105,13 @@ pub extern "C" fn ldpc_decode_ms_i8(
     output: &mut [u8],
     working: &mut [i8],
     working_u8: &mut [u8],
-    maxiters: usize,
+    limit: usize,
     success: &mut u8,
     iters: &mut usize,
 ) -> u8
-    ensures { λ r. ⌜ soft r (now (success .exit)) (now (iters .exit)) (now (output .exit)) (now (working .exit)) (now («working_u8» .exit)) ≡ softDoor (decodeOutcome i8 code (now (llrs .entry)) (now (output .entry)) (now (working .entry)) (now («working_u8» .entry)) maxiters) ⌝ }
+    ensures { λ r. ⌜ soft r (now (success .exit)) (now (iters .exit)) (now (output .exit)) (now (working .exit)) (now («working_u8» .exit)) ≡ softDoor (decodeOutcome i8 code (now (llrs .entry)) (now (output .entry)) (now (working .entry)) (now («working_u8» .entry)) limit) ⌝ }
 {
-    let r = min_sum::decode_ms_i8(code, llrs, output, working, working_u8, maxiters);
+    let r = min_sum_i8::decode_ms_i8(code, llrs, output, working, working_u8, limit);
     *success = as_byte(r.success);
     *iters = r.iters;
     r.answer

@@ -9,3 +9,8 @@ pub mod Packed
 pub mod Conversions
 pub mod Marginals
 pub mod Success
+pub mod Leaves
+pub mod Loops
+pub mod Stores
+pub mod HardBits
+pub mod Splices

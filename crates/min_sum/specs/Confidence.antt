@@ -5,7 +5,7 @@ use mathlib.Core.Path.{_≡_}
 use Prim.Native.Nat.{ℕ}
 use lib.IntN.{ℤ, pos}
 use lib.ListN.{getD}
-use Rattle.min_sum.specs.Soft.{satAdd, satSub, negated, size, below0, alike, lower}
+use Rattle.min_sum.specs.Soft as soft
 
 pub record Confidence (C : Type 0) : Type 0 where
   pub zero : C
@@ -24,13 +24,13 @@ whole top =
     record {
       zero = pos 0;
       top = pos top;
-      magnitude = size top;
-      add = satAdd top;
-      subtract = satSub top;
-      negate = negated top;
-      same = alike;
-      less = lower;
-      hard = below0;
+      magnitude = soft.magnitude top;
+      add = soft.add top;
+      subtract = soft.subtract top;
+      negate = soft.negate top;
+      same = soft.same;
+      less = soft.less;
+      hard = soft.hard;
     }
 
 abbrev pub i8 : Confidence ℤ

@@ -19,7 +19,7 @@ use Rattle.sheet_text.specs.declared.print.Answer.{Answer}
 use Rattle.sheet_text.specs.Printing.{room, answerOf}
 use Rattle.sheet_text.proofs.Writes.{answers}
 use Rattle.replay.specs.declared.cases.Case.{Case}
-use Rattle.replay.specs.Agreement.{Agrees, softened, Converted, recorded, Compared, bitFlipping, toldFlip, minSum, toldSoft, FlipCompared, SoftCompared}
+use Rattle.replay.specs.Agreement.{Agrees, softened, Converted, recorded, Compared, bitFlipping, minSum, FlipCompared, SoftCompared}
 
 -- no test is false and true
 pub never : {b : Bool} → b ≡ false → b ≡ true → ⊥
@@ -78,11 +78,11 @@ module _ (c : Case) (want : List ℕ) {r : Report} {o : List ℕ} {x : Told} {b 
 module _ (c : Case) (want input output working : List ℕ) {r : Report} {o w : List ℕ} {b : Bool}
     (e : flip.left r o w ≡ bitFlipping c input output working) (a : Agrees b (r ≡ recorded c)) where
   pub flip-other : b ≡ false → FlipCompared c want (bitFlipping c input output working) false o w
-  flip-other f = record { compared = other-report c want (ap toldFlip e) a f; working-left = ap (λ (y : flip.Outcome). y .working) e }
+  flip-other f = record { compared = other-report c want (ap flip.toldFlip e) a f; working-left = ap (λ (y : flip.Outcome). y .working) e }
 
   pub flip-same : {t : Bool} → b ≡ true → (t ≡ true → o ≡ want) × (o ≡ want → t ≡ true)
       → FlipCompared c want (bitFlipping c input output working) t o w
-  flip-same f g = record { compared = same-report c want (ap toldFlip e) a f g; working-left = ap (λ (y : flip.Outcome). y .working) e }
+  flip-same f g = record { compared = same-report c want (ap flip.toldFlip e) a f g; working-left = ap (λ (y : flip.Outcome). y .working) e }
 
 -- a decoder of the confidences l that bytes were read as
 module _ (c : Case) (want bytes output : List ℕ) (llrs working : List ℤ) (signs : List ℕ) {l w : List ℤ} {r : Report} {o s : List ℕ} {b : Bool}
@@ -96,7 +96,7 @@ module _ (c : Case) (want bytes output : List ℕ) (llrs working : List ℤ) (si
   pub soft-other : b ≡ false → SoftCompared c want outcome false o w s
   soft-other f =
       record {
-        compared = other-report c want (ap toldSoft left-is) a f;
+        compared = other-report c want (ap soft.toldSoft left-is) a f;
         working-left = ap (λ (y : soft.Outcome ℤ). y .working) left-is;
         signs-left = ap (λ (y : soft.Outcome ℤ). y .«working_u8») left-is;
       }
@@ -104,7 +104,7 @@ module _ (c : Case) (want bytes output : List ℕ) (llrs working : List ℤ) (si
   pub soft-same : {t : Bool} → b ≡ true → (t ≡ true → o ≡ want) × (o ≡ want → t ≡ true) → SoftCompared c want outcome t o w s
   soft-same f g =
       record {
-        compared = same-report c want (ap toldSoft left-is) a f g;
+        compared = same-report c want (ap soft.toldSoft left-is) a f g;
         working-left = ap (λ (y : soft.Outcome ℤ). y .working) left-is;
         signs-left = ap (λ (y : soft.Outcome ℤ). y .«working_u8») left-is;
       }

@@ -13,9 +13,10 @@ use Rattle.maths.proofs.Slices.{replicate-front, replicate-front-length}
 use Rattle.codes.specs.declared.CodeParams.{CodeParams}
 use Rattle.codes.specs.Codes.{maxBits, maxSent}
 use Rattle.min_sum.specs.Confidence.{i8}
+use Rattle.bit_flip.specs.Outcome.{toldFlip}
 use Rattle.min_sum.specs.Outcomes.{written, toLlrsOutcome, toHardOutcome}
 use Rattle.replay.specs.declared.cases.Case.{Case}
-use Rattle.replay.specs.Agreement.{Agrees, readLen, writtenLen, softened, lent, Converted, Compared, bitFlipping, toldFlip, FlipCompared}
+use Rattle.replay.specs.Agreement.{Agrees, readLen, writtenLen, softened, lent, Converted, Compared, bitFlipping, FlipCompared}
 
 module _ (c : Case) (row : CodeParams) where
   -- an operation that is none of the five

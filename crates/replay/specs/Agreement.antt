@@ -82,25 +82,17 @@ pub record Compared (c : Case) (want : List ℕ) (x : Told) (r : Bool) (output :
 abbrev pub bitFlipping : Case → List ℕ → List ℕ → List ℕ → flip.Outcome
 bitFlipping c input output working = flip.outcome (c .code) input output working (c .limit)
 
--- what is compared of that
-abbrev pub toldFlip : flip.Outcome → Told
-toldFlip x = told (x .report) (x .output)
-
 -- what min-sum leaves, as the case asks for it, of the confidences that the bytes stand for
 abbrev pub minSum : Case → List ℕ → List ℕ → List ℤ → List ℤ → List ℕ → soft.Outcome ℤ
 minSum c bytes output llrs working signs = soft.decodeOutcome i8 (c .code) (softened bytes llrs) output working signs (c .limit)
 
--- what is compared of that
-abbrev pub toldSoft : soft.Outcome ℤ → Told
-toldSoft x = told (x .report) (x .output)
-
 -- bit flipping is compared, and its working buffer is left
 pub record FlipCompared (c : Case) (want : List ℕ) (x : flip.Outcome) (r : Bool) (output working : List ℕ) : Type 0 where
-  pub compared : Compared c want (toldFlip x) r output
+  pub compared : Compared c want (flip.toldFlip x) r output
   pub working-left : working ≡ x .working
 
 -- min-sum is compared, and both its working buffers are left
 pub record SoftCompared (c : Case) (want : List ℕ) (x : soft.Outcome ℤ) (r : Bool) (output : List ℕ) (working : List ℤ) (signs : List ℕ) : Type 0 where
-  pub compared : Compared c want (toldSoft x) r output
+  pub compared : Compared c want (soft.toldSoft x) r output
   pub working-left : working ≡ x .working
   pub signs-left : signs ≡ x .«working_u8»

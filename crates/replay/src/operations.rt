@@ -5,9 +5,10 @@ ghost use lib.IntN.{pos, negsuc};
 ghost use lib.ListN.{length};
 ghost use Rattle.codes.specs.Codes.{maxBits, maxSent, maxSigns, maxSoftWorking};
 ghost use Rattle.min_sum.specs.Confidence.{i8};
-ghost use Rattle.min_sum.specs.Outcomes.{written, toLlrsOutcome, toHardOutcome};
+ghost use Rattle.bit_flip.specs.Outcome.{toldFlip};
+ghost use Rattle.min_sum.specs.Outcomes.{toldSoft, written, toLlrsOutcome, toHardOutcome};
 ghost use Rattle.sheet.specs.Sheet.{sheetOf};
-ghost use Rattle.replay.specs.Agreement.{Agrees, EncodeCompared, Converted, Compared, FlipCompared, SoftCompared, recorded, bitFlipping, toldFlip, minSum, toldSoft, signed, softened, lent};
+ghost use Rattle.replay.specs.Agreement.{Agrees, EncodeCompared, Converted, Compared, FlipCompared, SoftCompared, recorded, bitFlipping, minSum, signed, softened, lent};
 use crate::cases::Case;
 use crate::cases::least;
 use crate::soft::same_soft;
@@ -84,7 +85,7 @@ fn min_sum_on(
     ensures { λ r. ⌜ (SoftCompared c (now (want .entry)) (minSum c (now (read .entry)) (now (output .entry)) (now (llrs .entry)) (now (working .entry)) (now (signs .entry))) r (now (output .exit)) (now (working .exit)) (now (signs .exit))) × (now (llrs .exit) ≡ softened (now (read .entry)) (now (llrs .entry))) ⌝ }
 {
     soften(read, llrs);
-    let r = min_sum::decode_ms_i8(c.code, llrs, output, working, signs, c.limit);
+    let r = min_sum_i8::decode_ms_i8(c.code, llrs, output, working, signs, c.limit);
     if !reported(r, c) {
         return false;
     }
@@ -120,7 +121,7 @@ pub(crate) fn min_sum_i8(
 fn to_llrs_on(c: Case, read: &[u8], want: &[u8], llrs: &mut [i8]) -> bool
     ensures { λ r. ⌜ Converted (toLlrsOutcome (negsuc 0) (pos 1) (c .code) (now (read .entry)) (now (llrs .entry))) (map signed (now (want .entry))) r (now (llrs .exit)) ⌝ }
 {
-    if min_sum::llrs::hard_to_llrs_i8(c.code, read, llrs) != ACCEPTED {
+    if confidence_i8::llrs::hard_to_llrs_i8(c.code, read, llrs) != ACCEPTED {
         return false;
     }
     same_soft(llrs, want)
@@ -138,7 +139,7 @@ fn to_hard_on(c: Case, read: &[u8], want: &[u8], output: &mut [u8], llrs: &mut [
     ensures { λ r. ⌜ (Converted (toHardOutcome i8 (c .code) (softened (now (read .entry)) (now (llrs .entry))) (now (output .entry))) (now (want .entry)) r (now (output .exit))) × (now (llrs .exit) ≡ softened (now (read .entry)) (now (llrs .entry))) ⌝ }
 {
     soften(read, llrs);
-    if min_sum::llrs::llrs_to_hard_i8(c.code, llrs, output) != ACCEPTED {
+    if confidence_i8::llrs::llrs_to_hard_i8(c.code, llrs, output) != ACCEPTED {
         return false;
     }
     check::same(output, want)

@@ -38,26 +38,26 @@ module _ (r : Report) (output : List ℕ) (a : Answer) where
     encode-accepted f h = by-report (f ∙ rw (eq-eqb answer 0 h))
 
   -- bit flipping
-  pub flip-reported : (code maxiters : ℕ) (frame output₀ working₀ working : List ℕ) → flip.left r output working ≡ flip.outcome code frame output₀ working₀ maxiters
-      → a ≡ answerOf (reported r output) → a ≡ answerOf (flippedText (flip.outcome code frame output₀ working₀ maxiters))
-  flip-reported code maxiters frame output₀ working₀ working e p = p ∙ ap (λ (x : flip.Outcome). answerOf (flippedText x)) e
+  pub flip-reported : (code limit : ℕ) (frame output₀ working₀ working : List ℕ) → flip.left r output working ≡ flip.outcome code frame output₀ working₀ limit
+      → a ≡ answerOf (reported r output) → a ≡ answerOf (flippedText (flip.outcome code frame output₀ working₀ limit))
+  flip-reported code limit frame output₀ working₀ working e p = p ∙ ap (λ (x : flip.Outcome). answerOf (flippedText x)) e
 
   -- min-sum, where the frame's confidences were made and where they were not
-  module _ (code maxiters : ℕ) (frame output₀ : List ℕ) (llrs₀ llrs working₀ : List ℤ) (signs₀ : List ℕ) (answer : ℕ)
+  module _ (code limit : ℕ) (frame output₀ : List ℕ) (llrs₀ llrs working₀ : List ℤ) (signs₀ : List ℕ) (answer : ℕ)
       (e : written answer llrs ≡ toLlrsOutcome (negsuc 0) (pos 1) code frame llrs₀) (p : a ≡ answerOf (reported r output)) where
     abbrev from : Written ℤ → Answer
-    from l = answerOf (softFrom code maxiters l output₀ working₀ signs₀)
+    from l = answerOf (softFrom code limit l output₀ working₀ signs₀)
 
     pub soft-refused : r ≡ refusal answer → (answer ≡ 0 → ⊥)
-        → a ≡ answerOf (softFrom code maxiters (toLlrsOutcome (negsuc 0) (pos 1) code frame llrs₀) output₀ working₀ signs₀)
+        → a ≡ answerOf (softFrom code limit (toLlrsOutcome (negsuc 0) (pos 1) code frame llrs₀) output₀ working₀ signs₀)
     soft-refused f h =
         let s : answerOf (reported (refusal answer) output) ≡ from (written answer llrs) = rw (ne-eqb answer 0 h) in
         p ∙ ap (λ (r : Report). answerOf (reported r output)) f ∙ s ∙ ap from e
 
-    pub soft-accepted : (working : List ℤ) (signs : List ℕ) → left r output working signs ≡ decodeOutcome i8 code llrs output₀ working₀ signs₀ maxiters → answer ≡ 0
-        → a ≡ answerOf (softFrom code maxiters (toLlrsOutcome (negsuc 0) (pos 1) code frame llrs₀) output₀ working₀ signs₀)
+    pub soft-accepted : (working : List ℤ) (signs : List ℕ) → left r output working signs ≡ decodeOutcome i8 code llrs output₀ working₀ signs₀ limit → answer ≡ 0
+        → a ≡ answerOf (softFrom code limit (toLlrsOutcome (negsuc 0) (pos 1) code frame llrs₀) output₀ working₀ signs₀)
     soft-accepted working signs f h =
-        let s : answerOf (softText (decodeOutcome i8 code llrs output₀ working₀ signs₀ maxiters)) ≡ from (written answer llrs) = rw (eq-eqb answer 0 h) in
+        let s : answerOf (softText (decodeOutcome i8 code llrs output₀ working₀ signs₀ limit)) ≡ from (written answer llrs) = rw (eq-eqb answer 0 h) in
         p ∙ ap (λ (x : Outcome ℤ). answerOf (softText x)) f ∙ s ∙ ap from e
 
 pub ruleset reports = (report-refused, report-accepted, encode-refused, encode-accepted, flip-reported, soft-refused, soft-accepted, needs)

@@ -41,10 +41,10 @@ module _ (s : List ℕ) (r : Reading) (q : Request) (e : r ≡ Asks q) (f : r �
     pub bytes-long : q .digits / 2 ≡ length (take (q .digits / 2) buffer)
     bytes-long = sym (length-take-le (q .digits / 2) buffer bytes-inside)
 
-    pub sheet-answered : (a : Answer) → a ≡ answerOf (answerTo (sheet (q .code) (q .op) (q .maxiters) (take (q .digits / 2) buffer))) → a ≡ answerOf (sheetOf s)
+    pub sheet-answered : (a : Answer) → a ≡ answerOf (answerTo (sheet (q .code) (q .op) (q .limit) (take (q .digits / 2) buffer))) → a ≡ answerOf (sheetOf s)
     sheet-answered a h =
         h
-        ∙ ap (λ (l : List ℕ). answerOf (answerTo (sheet (q .code) (q .op) (q .maxiters) l))) (frame-there s q request g)
+        ∙ ap (λ (l : List ℕ). answerOf (answerTo (sheet (q .code) (q .op) (q .limit) l))) (frame-there s q request g)
         ∙ ap (λ (x : Sheet). answerOf (answerTo x)) (sym (request .parsed))
 
 pub ruleset requests = (sheet-malformed, digits-fit, digits-inside, bytes-inside, bytes-long, sheet-answered, needs)

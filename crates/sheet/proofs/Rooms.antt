@@ -7,12 +7,11 @@ use borrow.Author.Needs.{needs}
 use lib.Dec.{T, leb, leb→le}
 use lib.IntN.{ℤ, pos, negsuc}
 use lib.ListN.{length, take, replicate}
-use Rattle.maths.specs.Tests.{all}
-use Rattle.maths.proofs.Tests.{all-anywhere}
 use Rattle.maths.proofs.Slices.{replicate-front, replicate-front-length}
 use Rattle.codes.specs.declared.CodeParams.{CodeParams}
 use Rattle.codes.specs.declared.ParamsAnswer.{ParamsAnswer}
-use Rattle.codes.specs.Codes.{rows, row, rowOf, paramsOf, maxBits, maxBytes, maxSent, maxSentBytes, maxSigns, maxSoftWorking}
+use Rattle.codes.specs.Codes.{rows, paramsOf, maxBits, maxBytes, maxSent, maxSentBytes, maxSigns, maxSoftWorking}
+use Rattle.codes.proofs.Codes.{row-most}
 use Rattle.encoder.specs.Outcomes.{copyEncodeOutcome}
 use Rattle.bit_flip.specs.Outcome.{outcome}
 use Rattle.min_sum.specs.Outcomes.{toLlrsOutcome}
@@ -21,23 +20,18 @@ use Rattle.sheet_text.specs.Printing.{answerOf}
 use Rattle.sheet.specs.Rooms.{RowOf}
 use Rattle.sheet.specs.Sheet.{encodedText, flippedText, softFrom, encodeSheet, bfSheet, msSheet}
 
--- a length of every row, and of the zeros that an unknown code has, is at most so much
-below : (length : CodeParams → ℕ) (most : ℕ) → T (leb (length (row 0 0 0 0 0 0)) most) → T (all (λ r. leb (length r) most) rows)
-    → (code : ℕ) → length (rowOf code) ≤ most
-below length most z h code = leb→le (length (rowOf code)) most (all-anywhere (λ r. leb (length r) most) (row 0 0 0 0 0 0) z rows h code)
-
 pub row-of : (code : ℕ) (p : ParamsAnswer) → p ≡ paramsOf code → RowOf code (p .row)
 unfolding rows
 row-of code p e =
     rw e
     (record {
       is = refl;
-      codeword = below (λ r. r .n / 8) maxSentBytes tt tt code;
-      llrs = below (λ r. r .n) maxSent tt tt code;
-      output = below (λ r. r .«output_len») maxBytes tt tt code;
-      flip-working = below (λ r. r .«decode_bf_working_len») maxBits tt tt code;
-      soft-working = below (λ r. r .«decode_ms_working_len») maxSoftWorking tt tt code;
-      signs = below (λ r. r .«decode_ms_working_u8_len») maxSigns tt tt code;
+      codeword = row-most (λ r. r .n / 8) maxSentBytes tt tt code;
+      llrs = row-most (λ r. r .n) maxSent tt tt code;
+      output = row-most (λ r. r .«output_len») maxBytes tt tt code;
+      flip-working = row-most (λ r. r .«decode_bf_working_len») maxBits tt tt code;
+      soft-working = row-most (λ r. r .«decode_ms_working_len») maxSoftWorking tt tt code;
+      signs = row-most (λ r. r .«decode_ms_working_u8_len») maxSigns tt tt code;
     })
 
 -- ---- what is lent of a buffer of zeros
@@ -53,17 +47,17 @@ module _ (code : ℕ) (frame : List ℕ) (r : CodeParams) (a : Answer) (q : RowO
   pub encode-lent : a ≡ answerOf (encodedText (copyEncodeOutcome code frame (take (r .n / 8) (replicate maxSentBytes 0)))) → a ≡ answerOf (encodeSheet code frame)
   encode-lent e = rw (replicate-front {A = ℕ} maxSentBytes 0 _ (q .codeword), q .is) at e
 
-  pub flip-lent : (maxiters : ℕ)
-      → a ≡ answerOf (flippedText (outcome code frame (take (r .«output_len») (replicate maxBytes 0)) (take (r .«decode_bf_working_len») (replicate maxBits 0)) maxiters))
-      → a ≡ answerOf (bfSheet code maxiters frame)
-  flip-lent maxiters e = rw (replicate-front {A = ℕ} maxBytes 0 _ (q .output), replicate-front {A = ℕ} maxBits 0 _ (q .flip-working), q .is) at e
+  pub flip-lent : (limit : ℕ)
+      → a ≡ answerOf (flippedText (outcome code frame (take (r .«output_len») (replicate maxBytes 0)) (take (r .«decode_bf_working_len») (replicate maxBits 0)) limit))
+      → a ≡ answerOf (bfSheet code limit frame)
+  flip-lent limit e = rw (replicate-front {A = ℕ} maxBytes 0 _ (q .output), replicate-front {A = ℕ} maxBits 0 _ (q .flip-working), q .is) at e
 
-  pub soft-lent : (maxiters : ℕ)
+  pub soft-lent : (limit : ℕ)
       → a ≡ answerOf
-      (softFrom code maxiters (toLlrsOutcome (negsuc 0) (pos 1) code frame (take (r .n) (replicate maxSent (pos 0)))) (take (r .«output_len») (replicate maxBytes 0))
+      (softFrom code limit (toLlrsOutcome (negsuc 0) (pos 1) code frame (take (r .n) (replicate maxSent (pos 0)))) (take (r .«output_len») (replicate maxBytes 0))
       (take (r .«decode_ms_working_len») (replicate maxSoftWorking (pos 0))) (take (r .«decode_ms_working_u8_len») (replicate maxSigns 0)))
-      → a ≡ answerOf (msSheet code maxiters frame)
-  soft-lent maxiters e =
+      → a ≡ answerOf (msSheet code limit frame)
+  soft-lent limit e =
       rw (
         replicate-front {A = ℤ} maxSent (pos 0) _ (q .llrs),
         replicate-front {A = ℕ} maxBytes 0 _ (q .output),

@@ -20,13 +20,13 @@ use sheet_text::values::hex_bytes;
 // The text is no sheet.
 pub const MALFORMED: u8 = 9;
 
-fn answer_to(code: usize, op: Op, maxiters: usize, frame: &[u8]) -> Answer
-    ensures { λ r. ⌜ r ≡ answerOf (answerTo (sheet code op maxiters (now (frame .entry)))) ⌝ }
+fn answer_to(code: usize, op: Op, limit: usize, frame: &[u8]) -> Answer
+    ensures { λ r. ⌜ r ≡ answerOf (answerTo (sheet code op limit (now (frame .entry)))) ⌝ }
 {
     match op {
         Op::Encode => encode_frame(code, frame),
-        Op::Bf => flip_frame(code, frame, maxiters),
-        Op::Ms => soft_frame(code, frame, maxiters),
+        Op::Bf => flip_frame(code, frame, limit),
+        Op::Ms => soft_frame(code, frame, limit),
     }
 }
 
@@ -43,5 +43,5 @@ pub fn sheet(text: &[u8]) -> Answer
     let op = q.op;
     let mut frame = [0u8; 4080];
     hex_bytes(&text[from..to], &mut frame);
-    answer_to(q.code, op, q.maxiters, &frame[..n])
+    answer_to(q.code, op, q.limit, &frame[..n])
 }

@@ -65,24 +65,24 @@ fn flip_into(
     frame: &[u8],
     output: &mut [u8],
     working: &mut [u8],
-    maxiters: usize,
+    limit: usize,
 ) -> Answer
     requires { ⌜ length (now output) ≤ maxOutput ⌝ }
-    ensures { λ a. ⌜ a ≡ answerOf (flippedText (outcome code (now (frame .entry)) (now (output .entry)) (now (working .entry)) maxiters)) ⌝ }
+    ensures { λ a. ⌜ a ≡ answerOf (flippedText (outcome code (now (frame .entry)) (now (output .entry)) (now (working .entry)) limit)) ⌝ }
 {
-    let r = bit_flip::decode_bf(code, frame, output, working, maxiters);
+    let r = bit_flip::decode_bf(code, frame, output, working, limit);
     print_report(r, output)
 }
 
-pub(crate) fn flip_frame(code: usize, frame: &[u8], maxiters: usize) -> Answer
-    ensures { λ a. ⌜ a ≡ answerOf (bfSheet code maxiters (now (frame .entry))) ⌝ }
+pub(crate) fn flip_frame(code: usize, frame: &[u8], limit: usize) -> Answer
+    ensures { λ a. ⌜ a ≡ answerOf (bfSheet code limit (now (frame .entry))) ⌝ }
 {
     let mut output = [0u8; MAX_BYTES];
     let mut working = [0u8; MAX_BITS];
     let row = row_of(code);
     let o = row.output_len;
     let w = row.decode_bf_working_len;
-    flip_into(code, frame, &mut output[..o], &mut working[..w], maxiters)
+    flip_into(code, frame, &mut output[..o], &mut working[..w], limit)
 }
 
 fn soft_into(
@@ -92,21 +92,21 @@ fn soft_into(
     output: &mut [u8],
     working: &mut [i8],
     signs: &mut [u8],
-    maxiters: usize,
+    limit: usize,
 ) -> Answer
     requires { ⌜ length (now output) ≤ maxOutput ⌝ }
-    ensures { λ a. ⌜ a ≡ answerOf (softFrom code maxiters (toLlrsOutcome (negsuc 0) (pos 1) code (now (frame .entry)) (now (llrs .entry))) (now (output .entry)) (now (working .entry)) (now (signs .entry))) ⌝ }
+    ensures { λ a. ⌜ a ≡ answerOf (softFrom code limit (toLlrsOutcome (negsuc 0) (pos 1) code (now (frame .entry)) (now (llrs .entry))) (now (output .entry)) (now (working .entry)) (now (signs .entry))) ⌝ }
 {
-    let answer = min_sum::llrs::hard_to_llrs_i8(code, frame, llrs);
+    let answer = confidence_i8::llrs::hard_to_llrs_i8(code, frame, llrs);
     if answer != ACCEPTED {
         return print_report(refused(answer), output);
     }
-    let r = min_sum::decode_ms_i8(code, llrs, output, working, signs, maxiters);
+    let r = min_sum_i8::decode_ms_i8(code, llrs, output, working, signs, limit);
     print_report(r, output)
 }
 
-pub(crate) fn soft_frame(code: usize, frame: &[u8], maxiters: usize) -> Answer
-    ensures { λ a. ⌜ a ≡ answerOf (msSheet code maxiters (now (frame .entry))) ⌝ }
+pub(crate) fn soft_frame(code: usize, frame: &[u8], limit: usize) -> Answer
+    ensures { λ a. ⌜ a ≡ answerOf (msSheet code limit (now (frame .entry))) ⌝ }
 {
     let mut llrs = [0i8; MAX_SENT];
     let mut output = [0u8; MAX_BYTES];
@@ -124,6 +124,6 @@ pub(crate) fn soft_frame(code: usize, frame: &[u8], maxiters: usize) -> Answer
         &mut output[..o],
         &mut working[..w],
         &mut signs[..s],
-        maxiters,
+        limit,
     )
 }

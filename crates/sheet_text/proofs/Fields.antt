@@ -72,8 +72,8 @@ pub record Field (key s : List ℕ) (more : List ℕ → List ℕ → Sheet) (re
   pub is : s ≡ line key value ++ rest
   pub then : more value rest ≡ result
 
-module _ (key s : List ℕ) (more : List ℕ → List ℕ → Sheet) (code : ℕ) (op : Op) (maxiters : ℕ) (frame : List ℕ) where
-  pub field-spelled : field key s more ≡ sheet code op maxiters frame → Field key s more (sheet code op maxiters frame)
+module _ (key s : List ℕ) (more : List ℕ → List ℕ → Sheet) (code : ℕ) (op : Op) (limit : ℕ) (frame : List ℕ) where
+  pub field-spelled : field key s more ≡ sheet code op limit frame → Field key s more (sheet code op limit frame)
   unfolding field
   field-spelled e = go (begins key s) refl (ltb (lineEnd t) (length t)) refl e
     where
@@ -81,8 +81,8 @@ module _ (key s : List ℕ) (more : List ℕ → List ℕ → Sheet) (code : ℕ
       t = drop (length key) s
 
       go : (x : Bool) → begins key s ≡ x → (y : Bool) → ltb (lineEnd t) (length t) ≡ y
-          → pick (both x y) (more (take (lineEnd t) t) (drop (suc (lineEnd t)) t)) malformed ≡ sheet code op maxiters frame
-          → Field key s more (sheet code op maxiters frame)
+          → pick (both x y) (more (take (lineEnd t) t) (drop (suc (lineEnd t)) t)) malformed ≡ sheet code op limit frame
+          → Field key s more (sheet code op limit frame)
       go true p true q e =
           let n = newline-at t (ltb-true (lineEnd t) (length t) q) in
           record {

@@ -161,11 +161,11 @@ module _ (v : List ℕ) (b : Bool) (e : b ≡ hexText v) where
   frame-not-last s to n x t g h =
       rw (sym e ∙ t, ne-eqb (length (drop (to + 1) s)) 0 (λ z. g (omega (arith, length-drop (to + 1) s))))
 
-pub frame-read : (s : List ℕ) (from to code : ℕ) (op : Op) (maxiters : ℕ) (b : Bool) → b ≡ hexText (take (to - from) (drop from s)) → b ≡ true → to + 1 ≡ length s → from ≤ to
-    → Asks (record { code = code; op = op; maxiters = maxiters; start = from; digits = to - from })
+pub frame-read : (s : List ℕ) (from to code : ℕ) (op : Op) (limit : ℕ) (b : Bool) → b ≡ hexText (take (to - from) (drop from s)) → b ≡ true → to + 1 ≡ length s → from ≤ to
+    → Asks (record { code = code; op = op; limit = limit; start = from; digits = to - from })
     ≡ placed (length s)
-    (pick (both (hexText (take (to - from) (drop from s))) (eqb (length (drop (to + 1) s)) 0)) (sheet code op maxiters (unhex (take (to - from) (drop from s)))) malformed)
-frame-read s from to code op maxiters b e t l h =
+    (pick (both (hexText (take (to - from) (drop from s))) (eqb (length (drop (to + 1) s)) 0)) (sheet code op limit (unhex (take (to - from) (drop from s)))) malformed)
+frame-read s from to code op limit b e t l h =
     let n = digits-length s from to h (omega arith) (sym e ∙ t) in
     let f : length s - 1 - (to - from) ≡ from = omega arith in
     rw (sym e ∙ t, eq-eqb (length (drop (to + 1) s)) 0 (omega (arith, length-drop (to + 1) s)), n, f)
@@ -175,7 +175,7 @@ pub ruleset lines = (line-ordered, line-inside, line-after, line-fits, line-read
 -- ---- the promise of `read`, by what it read
 number-of : (n : ℕ) (x : Sheet) → textNumber (placed n x) ≡ firstOf (test (unread x) 9 ∷ [])
 number-of n malformed = refl
-number-of n (sheet code op maxiters frame) = refl
+number-of n (sheet code op limit frame) = refl
 
 module _ (s : List ℕ) where
   read-so : {r : Reading} → r ≡ readOf s → (r ≡ readOf s) × (textNumber r ≡ readAnswer s)

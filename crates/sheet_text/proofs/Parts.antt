@@ -21,7 +21,7 @@ use Rattle.sheet_text.proofs.BothWays.{accepted}
 
 pub record Asked (s : List ℕ) (q : Request) : Type 0 where
   pub frame : List ℕ
-  pub parsed : parse s ≡ sheet (q .code) (q .op) (q .maxiters) frame
+  pub parsed : parse s ≡ sheet (q .code) (q .op) (q .limit) frame
   pub even : q .digits ≡ 2 * length frame
   pub inside : q .start + q .digits < length s
   pub shown : take (q .digits) (drop (q .start) s) ≡ hex frame
@@ -29,8 +29,8 @@ pub record Asked (s : List ℕ) (q : Request) : Type 0 where
 
 -- the text before the frame's digits
 abbrev front : ℕ → Op → ℕ → List ℕ
-front code op maxiters =
-    line (ascii "code=") (glyph code ∷ []) ++ line (ascii "op=") (nameOf op) ++ line (ascii "maxiters=") (decimal maxiters) ++ ascii "frame="
+front code op limit =
+    line (ascii "code=") (glyph code ∷ []) ++ line (ascii "op=") (nameOf op) ++ line (ascii "maxiters=") (decimal limit) ++ ascii "frame="
 
 regroup : (a key v n : List ℕ) → a ++ (key ++ v ++ n) ≡ a ++ key ++ (v ++ n)
 regroup a key v n = simp append-assoc
@@ -43,26 +43,26 @@ name-length Ms = omega arith
 lengths : (a b c d : List ℕ) → length (a ++ b ++ c ++ d) ≡ length a + length b + length c + length d
 lengths a b c d = omega (arith, length-append (a ++ b ++ c) d, length-append (a ++ b) c, length-append a b)
 
-module _ (code : ℕ) (op : Op) (maxiters : ℕ) (frame : List ℕ) where
-  cut : spell code op maxiters frame ≡ front code op maxiters ++ (hex frame ++ newline ∷ [])
+module _ (code : ℕ) (op : Op) (limit : ℕ) (frame : List ℕ) where
+  cut : spell code op limit frame ≡ front code op limit ++ (hex frame ++ newline ∷ [])
   cut =
-      regroup (line (ascii "code=") (glyph code ∷ []) ++ line (ascii "op=") (nameOf op) ++ line (ascii "maxiters=") (decimal maxiters))
+      regroup (line (ascii "code=") (glyph code ∷ []) ++ line (ascii "op=") (nameOf op) ++ line (ascii "maxiters=") (decimal limit))
       (ascii "frame=") (hex frame) (newline ∷ [])
 
-  front-length : 30 ≤ length (front code op maxiters)
+  front-length : 30 ≤ length (front code op limit)
   front-length =
       omega (
         arith,
-        lengths (line (ascii "code=") (glyph code ∷ [])) (line (ascii "op=") (nameOf op)) (line (ascii "maxiters=") (decimal maxiters)) (ascii "frame="),
+        lengths (line (ascii "code=") (glyph code ∷ [])) (line (ascii "op=") (nameOf op)) (line (ascii "maxiters=") (decimal limit)) (ascii "frame="),
         name-length op,
-        line-length (ascii "maxiters=") maxiters,
-        decimal-long maxiters,
+        line-length (ascii "maxiters=") limit,
+        decimal-long limit,
       )
 
-  parts : (s : List ℕ) → Spells s code op maxiters frame → parse s ≡ sheet code op maxiters frame
-      → Asked s (record { code = code; op = op; maxiters = maxiters; start = length s - 1 - 2 * length frame; digits = 2 * length frame })
+  parts : (s : List ℕ) → Spells s code op limit frame → parse s ≡ sheet code op limit frame
+      → Asked s (record { code = code; op = op; limit = limit; start = length s - 1 - 2 * length frame; digits = 2 * length frame })
   parts s w p =
-      let f = front code op maxiters in
+      let f = front code op limit in
       let e : s ≡ f ++ (hex frame ++ newline ∷ []) = w .spelled ∙ cut in
       let n : length s ≡ length f + (2 * length frame + 1) =
       ap length e ∙ length-append f (hex frame ++ newline ∷ []) ∙ rw (length-append (hex frame) (newline ∷ []), hex-length frame) in
@@ -82,10 +82,10 @@ asked s q e = go (parse s) refl e
   where
     go : (r : Sheet) → parse s ≡ r → placed (length s) r ≡ Asks q → Asked s q
     go malformed p e = absurd (let z : _≡_ {A = ℕ} 0 1 = cc in omega arith)
-    go (sheet code op maxiters frame) p e =
+    go (sheet code op limit frame) p e =
         subst (λ (r : Request). Asked s r)
-        (let same : record { code = code; op = op; maxiters = maxiters; start = length s - 1 - 2 * length frame; digits = 2 * length frame } ≡ q = cc in same)
-        (parts code op maxiters frame s (accepted code op maxiters frame s p) p)
+        (let same : record { code = code; op = op; limit = limit; start = length s - 1 - 2 * length frame; digits = 2 * length frame } ≡ q = cc in same)
+        (parts code op limit frame s (accepted code op limit frame s p) p)
 
 -- a text that asks for nothing is malformed
 pub asked-nothing : (s : List ℕ) → readOf s ≡ Malformed → parse s ≡ malformed
@@ -93,7 +93,7 @@ asked-nothing s e = go (parse s) refl e
   where
     go : (r : Sheet) → parse s ≡ r → placed (length s) r ≡ Malformed → parse s ≡ malformed
     go malformed p e = p
-    go (sheet code op maxiters frame) p e = absurd (let z : _≡_ {A = ℕ} 0 1 = cc in omega arith)
+    go (sheet code op limit frame) p e = absurd (let z : _≡_ {A = ℕ} 0 1 = cc in omega arith)
 
 -- ---- the bytes of the frame, read from the text into a buffer of zeros
 abbrev digitsOf : List ℕ → Request → List ℕ

@@ -1,7 +1,7 @@
 -- The loops that read a list from the front: what holds at a turn, why it holds at the next, and what is so at the end. Assumes nothing.
-use mathlib.Core.Bool.{true, false}
+use mathlib.Core.Bool.{Bool, true, false}
 use mathlib.Core.List.{List, [], _∷_}
-use mathlib.Core.Path.{_≡_, refl}
+use mathlib.Core.Path.{_≡_, refl, sym, _∙_}
 use Prim.Native.Nat.{ℕ, _+_, _*_, _%_, _≤_, _<_}
 use native.Mathlib.Numerals.{add-one}
 use native.Mathlib.Omega.{arith}
@@ -12,9 +12,11 @@ use lib.ListN.{length, getD, drop, drop-of-length-le}
 use lib.Seq.{drop-cons}
 use Rattle.maths.specs.Tests.{all}
 use Rattle.maths.proofs.Tests.{both-false}
+use Rattle.sheet_text.specs.declared.values.Op.the-variants.{Encode, Bf, Ms}
+use Rattle.sheet_text.specs.declared.values.Named.the-variants.{Names, NoName}
 use Rattle.sheet_text.specs.declared.values.Number.the-variants.{Is, NoNumber}
-use Rattle.sheet_text.specs.Text.{newline, largest}
-use Rattle.sheet_text.specs.Reading.{valueOf, numberFrom, numberOf, begins, hexDigit, hexText, lineEnd}
+use Rattle.sheet_text.specs.Text.{ascii, newline, largest}
+use Rattle.sheet_text.specs.Reading.{valueOf, numberFrom, numberOf, begins, same, opOf, hexDigit, hexText, lineEnd}
 
 pub next : (s : List ℕ) (i : ℕ) → i < length s → drop i s ≡ getD s i 0 ∷ drop (i + 1) s
 next s i h = rw (add-one, drop-cons s i 0)
@@ -154,6 +156,24 @@ pub number-plain : (s : List ℕ) → (length s ≡ 0 → ⊥) → (getD s 0 0 �
 unfolding numberOf
 number-plain [] g h = absurd (g refl)
 number-plain (b ∷ s) g h = rw (ne-eqb b 48 h)
+
+-- ---- an operation by its name: the words are tried in turn
+module _ (v : List ℕ) (a : Bool) (e : a ≡ same (ascii "encode") v) where
+  pub name-encode : a ≡ true → Names Encode ≡ opOf v
+  name-encode t = rw (sym e ∙ t)
+
+  module _ (b : Bool) (g : b ≡ same (ascii "bf") v) (f : a ≡ false) where
+    pub name-bf : b ≡ true → Names Bf ≡ opOf v
+    name-bf t = rw (sym e ∙ f, sym g ∙ t)
+
+    module _ (c : Bool) (k : c ≡ same (ascii "ms") v) (h : b ≡ false) where
+      pub name-ms : c ≡ true → Names Ms ≡ opOf v
+      name-ms t = rw (sym e ∙ f, sym g ∙ h, sym k ∙ t)
+
+      pub name-none : c ≡ false → NoName ≡ opOf v
+      name-none t = rw (sym e ∙ f, sym g ∙ h, sym k ∙ t)
+
+pub ruleset names = (name-encode, name-bf, name-ms, name-none, needs)
 
 pub ruleset turns =
     (hexes-odd, hexes-begin, hexes-end, hexes-more, hexes-not, end-begin, end-more, end-found, end-none, digits-begin, digits-end, digits-more, digits-not, digits-large, match-short, match-begin, match-more, match-not, match-end, needs)

@@ -105,12 +105,12 @@ withOp NoName more = malformed
 
 -- the four lines, the last first
 unfoldable pub fromFrame : ℕ → Op → ℕ → List ℕ → Sheet
-fromFrame code op maxiters s =
-    field (ascii "frame=") s (λ v rest. pick (both (hexText v) (eqb (length rest) 0)) (sheet code op maxiters (unhex v)) malformed)
+fromFrame code op limit s =
+    field (ascii "frame=") s (λ v rest. pick (both (hexText v) (eqb (length rest) 0)) (sheet code op limit (unhex v)) malformed)
 
 unfoldable pub fromLimit : ℕ → Op → List ℕ → Sheet
 fromLimit code op s =
-    field (ascii "maxiters=") s (λ v rest. withNumber (numberOf v) (λ maxiters. fromFrame code op maxiters rest))
+    field (ascii "maxiters=") s (λ v rest. withNumber (numberOf v) (λ limit. fromFrame code op limit rest))
 
 unfoldable pub fromOp : ℕ → List ℕ → Sheet
 fromOp code s = field (ascii "op=") s (λ v rest. withOp (opOf v) (λ op. fromLimit code op rest))
@@ -132,8 +132,8 @@ lineAt s at key =
 -- the parts of a sheet, with the place of the frame's digits: they stand before the last newline of the n bytes
 abbrev pub placed : ℕ → Sheet → Reading
 placed n malformed = Malformed
-placed n (sheet code op maxiters frame) =
-    Asks (record { code = code; op = op; maxiters = maxiters; start = n - 1 - 2 * length frame; digits = 2 * length frame })
+placed n (sheet code op limit frame) =
+    Asks (record { code = code; op = op; limit = limit; start = n - 1 - 2 * length frame; digits = 2 * length frame })
 
 abbrev pub readOf : List ℕ → Reading
 readOf s = placed (length s) (parse s)
@@ -146,7 +146,7 @@ textNumber (Asks q) = 0
 -- the number of a text: by one test, whether it is malformed
 abbrev pub unread : Sheet → Bool
 unread malformed = true
-unread (sheet code op maxiters frame) = false
+unread (sheet code op limit frame) = false
 
 abbrev pub readAnswer : List ℕ → ℕ
 readAnswer s = firstOf (test (unread (parse s)) 9 ∷ [])

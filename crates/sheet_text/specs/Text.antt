@@ -48,10 +48,10 @@ line key value = key ++ value ++ newline ∷ []
 
 -- "four `key=value` lines in fixed order": code, op, maxiters, frame
 abbrev pub spell : ℕ → Op → ℕ → List ℕ → List ℕ
-spell code op maxiters frame =
+spell code op limit frame =
     line (ascii "code=") (glyph code ∷ [])
     ++ line (ascii "op=") (nameOf op)
-    ++ line (ascii "maxiters=") (decimal maxiters)
+    ++ line (ascii "maxiters=") (decimal limit)
     ++ line (ascii "frame=") (hex frame)
 
 -- "at most 8,192 bytes"
@@ -63,9 +63,9 @@ abbrev pub largest : ℕ
 largest = 4294967295
 
 -- the text is that of a sheet with these parts
-pub record Spells (text : List ℕ) (code : ℕ) (op : Op) (maxiters : ℕ) (frame : List ℕ) : Type 0 where
-  pub spelled : text ≡ spell code op maxiters frame
+pub record Spells (text : List ℕ) (code : ℕ) (op : Op) (limit : ℕ) (frame : List ℕ) : Type 0 where
+  pub spelled : text ≡ spell code op limit frame
   pub one-digit : code < 10
-  pub limited : maxiters ≤ largest
+  pub limited : limit ≤ largest
   pub bytes : Bytes frame
   pub short : length text ≤ longest

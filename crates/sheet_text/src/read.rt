@@ -25,7 +25,7 @@ pub(crate) enum Line {
 pub struct Request {
     pub code: usize,
     pub op: Op,
-    pub maxiters: usize,
+    pub limit: usize,
     pub start: usize,
     pub digits: usize,
 }
@@ -63,9 +63,9 @@ fn find_line(text: &[u8], at: usize, key: &[u8]) -> Line
     }
 }
 
-fn frame_line(text: &[u8], at: usize, code: usize, op: Op, maxiters: usize) -> Reading
+fn frame_line(text: &[u8], at: usize, code: usize, op: Op, limit: usize) -> Reading
     requires { ⌜ at ≤ length (now text) ⌝ }
-    ensures { λ r. ⌜ r ≡ placed (length (now (text .entry))) (fromFrame code op maxiters (drop at (now (text .entry)))) ⌝ }
+    ensures { λ r. ⌜ r ≡ placed (length (now (text .entry))) (fromFrame code op limit (drop at (now (text .entry)))) ⌝ }
 {
     let Line::Between(from, to) = find_line(text, at, b"frame=") else {
         return Reading::Malformed;
@@ -79,7 +79,7 @@ fn frame_line(text: &[u8], at: usize, code: usize, op: Op, maxiters: usize) -> R
     Reading::Asks(Request {
         code,
         op,
-        maxiters,
+        limit,
         start: from,
         digits: to - from,
     })
@@ -92,10 +92,10 @@ fn limit_line(text: &[u8], at: usize, code: usize, op: Op) -> Reading
     let Line::Between(from, to) = find_line(text, at, b"maxiters=") else {
         return Reading::Malformed;
     };
-    let Number::Is(maxiters) = number_of(&text[from..to]) else {
+    let Number::Is(limit) = number_of(&text[from..to]) else {
         return Reading::Malformed;
     };
-    frame_line(text, to + 1, code, op, maxiters)
+    frame_line(text, to + 1, code, op, limit)
 }
 
 fn op_line(text: &[u8], at: usize, code: usize) -> Reading

@@ -1,4 +1,4 @@
--- Pass 0 on confidences of one size: what it leaves on each edge and at each check. Assumes nothing.
+-- Pass 0 on confidences of one magnitude: what it leaves on each edge and at each check. Assumes nothing.
 use mathlib.Core.Bool.{Bool, true, false, not}
 use mathlib.Core.List.{List, [], _∷_}
 use mathlib.Core.Path.{_≡_, refl, sym, ap, _∙_}
@@ -18,7 +18,7 @@ use Rattle.maths.proofs.Stores.{set-each}
 use Rattle.codes.specs.Edges.{Edge, inRange}
 use Rattle.codes.specs.Equations.{bitsOf, par}
 use Rattle.matrices.proofs.Edges.{ranged-first}
-use Rattle.min_sum.specs.Soft.{satAdd, size, below0}
+use Rattle.min_sum.specs.Soft.{add, magnitude, hard}
 use Rattle.min_sum.specs.Confidence.{Confidence, whole}
 use Rattle.min_sum.specs.MinSum.{Link, link, numbered, Messages, at, newU, newV, newFirst, newSecond, addMessage, takeMessage}
 use Rattle.min_sum.proofs.Marginals.{Quiet, quiet-u}
@@ -58,18 +58,18 @@ module _ (top k : ℕ) (fits : suc k ≤ top) where
     pub u : (i : ℕ) → at o (s .u) i ≡ pos 0
     pub marginals : (i : ℕ) → at o (s .marginals) i ≡ given i
 
-  module _ (given : ℕ → ℤ) (same : (i : ℕ) → satAdd top (given i) (pos 0) ≡ given i) where
+  module _ (given : ℕ → ℤ) (same : (i : ℕ) → add top (given i) (pos 0) ≡ given i) where
     still-step : (e : Link) (s : Messages ℤ) → Still given s → Still given (addMessage o e s)
     unfolding addMessage
     still-step e s q =
         let z = q .quiet in
         let x = newU o (at o (s .v) (e .number)) (at o (s .first) (e .check)) (at o (s .second) (e .check)) (getD (s .negative) (e .check) false) in
         let ex : x ≡ pos 0 = quiet-u o (steady top) (z .v (e .number)) (z .first (e .check)) (z .second (e .check)) (z .negative (e .check)) in
-        let em : satAdd top (at o (s .marginals) (e .bit)) x ≡ given (e .bit) = rw (ex, q .marginals (e .bit)) (same (e .bit)) in
+        let em : add top (at o (s .marginals) (e .bit)) x ≡ given (e .bit) = rw (ex, q .marginals (e .bit)) (same (e .bit)) in
         record {
           quiet = record { v = z .v; first = z .first; second = z .second; negative = z .negative };
           u = set-each (λ i y. y ≡ pos 0) (s .u) (e .number) x (pos 0) ex (q .u);
-          marginals = set-each (λ i y. y ≡ given i) (s .marginals) (e .bit) (satAdd top (at o (s .marginals) (e .bit)) x) (pos 0) em (q .marginals);
+          marginals = set-each (λ i y. y ≡ given i) (s .marginals) (e .bit) (add top (at o (s .marginals) (e .bit)) x) (pos 0) em (q .marginals);
         }
 
     pub still-added : (ls : List Link) (s : Messages ℤ) → Still given s → Still given (fold (addMessage o) ls s)
@@ -110,10 +110,10 @@ module _ (top k : ℕ) (fits : suc k ≤ top) where
       negative = set (s .negative) (e .check) (pick b (not (getD (s .negative) (e .check) false)) (getD (s .negative) (e .check) false));
     }
 
-    taken-level : (j : ℕ) (e : Edge) (s : Messages ℤ) (x : ℤ) (b : Bool) → x ≡ level k b → taken j e x (size top x) (below0 x) s ≡ next j e b s
+    taken-level : (j : ℕ) (e : Edge) (s : Messages ℤ) (x : ℤ) (b : Bool) → x ≡ level k b → taken j e x (magnitude top x) (hard x) s ≡ next j e b s
     taken-level j e s x b p =
-        ap (λ (y : ℤ). taken j e y (size top y) (below0 y) s) p
-        ∙ ap (λ (y : ℤ). taken j e (level k b) y (below0 (level k b)) s) (level-size top k fits b)
+        ap (λ (y : ℤ). taken j e y (magnitude top y) (hard y) s) p
+        ∙ ap (λ (y : ℤ). taken j e (level k b) y (hard (level k b)) s) (level-size top k fits b)
         ∙ ap (λ (c : Bool). taken j e (level k b) (pos (suc k)) c s) (level-hard k b)
 
     module _ (j : ℕ) (e : Edge) (es : List Edge) (s : Messages ℤ) (q : Ready j (e ∷ es) s) where

@@ -27,7 +27,7 @@ use Rattle.report.specs.Report.{ending}
 use Rattle.two_flips.specs.Words.{plus, oneAt}
 use Rattle.two_flips.proofs.Added.{plus-at}
 use Rattle.two_flips.proofs.Frames.{whole-frame, word, word-is, word-long, word-bits, word-good, one-error}
-use Rattle.min_sum.specs.Soft.{below0}
+use Rattle.min_sum.specs.Soft.{hard}
 use Rattle.min_sum.specs.Confidence.{Confidence, whole}
 use Rattle.min_sum.specs.MinSum.{Messages, hardBits, start, pass, decoded}
 use Rattle.min_sum.specs.Hard.{toHard, toLlrs}
@@ -67,7 +67,7 @@ module _ (code : ℕ) (tc : TC code) (s : List ℕ) (bytes : Bytes s) (long : le
   o = whole top
 
   llrs-sent : length llrs ≡ rowOf code .n
-  llrs-sent = decode-lent code (rowOf code) (length llrs) (length output) (length working) (length signs) accepted refl .llrs-long
+  llrs-sent = decode-lent code (length llrs) (length output) (length working) (length signs) accepted .llrs-long
 
   llrs-long : length llrs ≡ bitsIn code
   llrs-long = omega (arith, llrs-sent, tc-sent code tc)
@@ -93,7 +93,7 @@ module _ (code : ℕ) (tc : TC code) (s : List ℕ) (bytes : Bytes s) (long : le
   given i h =
       let x = wrong .0 in
       let z = size i (omega (arith, llrs-long)) in
-      let hard : hardBits o llrs i ≡ pick (z .0) 1 0 = ap (λ (y : ℤ). pick (below0 y) 1 0) (z .1) ∙ ap (λ (b : Bool). pick b 1 0) (level-hard k (z .0)) in
+      let is-hard : hardBits o llrs i ≡ pick (z .0) 1 0 = ap (λ (y : ℤ). pick (hard y) 1 0) (z .1) ∙ ap (λ (b : Bool). pick b 1 0) (level-hard k (z .0)) in
       let at : wordOf (plus frame (oneAt (bitsIn code) x)) i ≡ pick (z .0) 1 0 =
       plus-at frame (oneAt (bitsIn code) x) (span-length (delta x) 0 (bitsIn code) ∙ sym frame-long) i
       ∙ omega (
@@ -102,7 +102,7 @@ module _ (code : ℕ) (tc : TC code) (s : List ℕ) (bytes : Bytes s) (long : le
         span-get (delta x) 0 (bitsIn code) i h,
         wrong .2 i (omega (arith, all-bits)),
         hard-bit o llrs (length llrs / 8) i (omega (arith, llrs-long, all-bits)),
-        hard,
+        is-hard,
       ) in
       z .1 ∙ ap (level k) (sym (ap (λ (b : ℕ). eqb b 1) at ∙ bit-test (z .0)))
 
@@ -126,7 +126,7 @@ module _ (code : ℕ) (tc : TC code) (s : List ℕ) (bytes : Bytes s) (long : le
     state-long = sym (ap (λ (e : End (Messages ℤ)). length (e .state .marginals)) (ran .1)) ∙ sized-state o code llrs limit known-code llrs-sent
 
     state-bits : (i : ℕ) → hardBits o (ran .0 .marginals) i ≡ bitAt s i
-    unfolding below0
+    unfolding hard
     state-bits i = go (decLt i (bitsIn code))
       where
         go : Dec (i < bitsIn code) → hardBits o (ran .0 .marginals) i ≡ bitAt s i

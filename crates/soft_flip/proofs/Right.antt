@@ -27,7 +27,7 @@ use Rattle.bit_flip.proofs.Scores.{sum-ranged}
 use Rattle.two_flips.specs.Words.{plus, oneAt}
 use Rattle.two_flips.proofs.Scores.{scoreAt}
 use Rattle.two_flips.proofs.Added.{plus-at}
-use Rattle.min_sum.specs.Soft.{below0}
+use Rattle.min_sum.specs.Soft.{hard}
 use Rattle.min_sum.specs.Confidence.{Confidence, whole}
 use Rattle.min_sum.specs.MinSum.{Messages, hardBits, start, pass, met, turn}
 use Rattle.min_sum.proofs.Success.{holds-same}
@@ -132,7 +132,7 @@ module _ (top k : ℕ) (fits : suc k ≤ top) (es : List Edge) (m n x : ℕ) (sp
   pub hard₁ : (i : ℕ) → i < n → hardBits o (pass₁ .marginals) i ≡ wordOf w i
   hard₁ i h = rw (second-marginals top k fits es m n (spread .ranged) (spread .two) llrs (input .llrs-long) r (input .given) i h) (go (ℕ-discrete i x))
     where
-      go : Dec (i ≡ x) → pick (below0 (total top k (signs odd (r i) (checksOf es i)) (level k (r i)))) 1 0 ≡ wordOf w i
+      go : Dec (i ≡ x) → pick (hard (total top k (signs odd (r i) (checksOf es i)) (level k (r i)))) 1 0 ≡ wordOf w i
       go (no ne) =
           let few′ : tested odd (checksOf es i) ≤ 1 = rw (tested-is i) (spread .few i h ne) in
           rw (stays odd top k fits (checksOf es i) (spread .three i h) (r i) few′) (omega (arith, ones-is i, delta-other x i ne, input .bits i))

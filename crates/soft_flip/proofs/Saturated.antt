@@ -11,13 +11,13 @@ use lib.Signed.{mag}
 use lib.ListN.{length}
 use Rattle.maths.specs.Tests.{pick}
 use Rattle.maths.specs.Sums.{sumL}
-use Rattle.min_sum.specs.Soft.{clamp, satAdd, below0}
+use Rattle.min_sum.specs.Soft.{clamp, add, hard}
 use Rattle.soft_flip.specs.OneSize.{level}
 
 -- confidences added in order
 unfoldable pub total : ℕ → ℕ → List Bool → ℤ → ℤ
 total top k [] z = z
-total top k (b ∷ bs) z = total top k bs (satAdd top z (level k b))
+total top k (b ∷ bs) z = total top k bs (add top z (level k b))
 
 -- how often a bit stands in a list
 unfoldable times : Bool → List Bool → ℕ
@@ -42,8 +42,8 @@ module _ (top k : ℕ) (fits : suc k ≤ top) where
   clamp-mag (pos n) = omega arith
   clamp-mag (negsuc n) = omega arith
 
-  add-height : (b : Bool) (z : ℤ) → mag z ≤ top → height (satAdd top z (level k b)) ≡ step b (height z)
-  unfolding clamp satAdd height step
+  add-height : (b : Bool) (z : ℤ) → mag z ≤ top → height (add top z (level k b)) ≡ step b (height z)
+  unfolding clamp add height step
   add-height true (pos n) h = go (ltb n (suc k)) refl
     where
       go : (t : Bool) → ltb n (suc k) ≡ t → height (clamp top (cond t (negsuc (suc k - suc n)) (pos (n - suc k)))) ≡ (suc top + n) - suc k
@@ -63,9 +63,9 @@ module _ (top k : ℕ) (fits : suc k ≤ top) where
   sums (b ∷ bs) n = sums bs (step b n)
 
   total-height : (bs : List Bool) (z : ℤ) → mag z ≤ top → height (total top k bs z) ≡ sums bs (height z)
-  unfolding total sums satAdd
+  unfolding total sums add
   total-height [] z h = refl
-  total-height (b ∷ bs) z h = total-height bs (satAdd top z (level k b)) (clamp-mag (z +ℤ level k b)) ∙ ap (sums bs) (add-height b z h)
+  total-height (b ∷ bs) z h = total-height bs (add top z (level k b)) (clamp-mag (z +ℤ level k b)) ∙ ap (sums bs) (add-height b z h)
 
   -- no number below 0, and at most one
   up-none : (bs : List Bool) (n : ℕ) → times true bs ≡ 0 → suc top ≤ n → suc top ≤ sums bs n
@@ -93,13 +93,13 @@ module _ (top k : ℕ) (fits : suc k ≤ top) where
   down-one (true ∷ bs) n q h = down-one bs (n - suc k) q (omega arith)
   down-one (false ∷ bs) n q h = down-none bs (min (n + suc k) (suc top + top)) (omega arith) (omega arith)
 
-  high : (z : ℤ) → suc top ≤ height z → below0 z ≡ false
-  unfolding height below0
+  high : (z : ℤ) → suc top ≤ height z → hard z ≡ false
+  unfolding height hard
   high (pos n) h = refl
   high (negsuc n) h = absurd (omega arith)
 
-  low : (z : ℤ) → height z ≤ top → below0 z ≡ true
-  unfolding height below0
+  low : (z : ℤ) → height z ≤ top → hard z ≡ true
+  unfolding height hard
   low (pos n) h = absurd (omega arith)
   low (negsuc n) h = refl
 
@@ -109,15 +109,15 @@ module _ (top k : ℕ) (fits : suc k ≤ top) where
 
   -- a start that is right, and one that is wrong
   module _ (bs : List Bool) where
-    kept-up : times true bs ≤ 1 → below0 (total top k bs (pos (suc k))) ≡ false
+    kept-up : times true bs ≤ 1 → hard (total top k bs (pos (suc k))) ≡ false
     unfolding height
     kept-up q = high (total top k bs (pos (suc k))) (rw (total-height bs (pos (suc k)) (level-mag false)) (up-one bs (suc top + suc k) q (omega arith)))
 
-    kept-down : times false bs ≤ 1 → 1 ≤ times true bs → below0 (total top k bs (negsuc k)) ≡ true
+    kept-down : times false bs ≤ 1 → 1 ≤ times true bs → hard (total top k bs (negsuc k)) ≡ true
     unfolding height
     kept-down q p = low (total top k bs (negsuc k)) (rw (total-height bs (negsuc k) (level-mag true)) (down-one bs (top - k) q (omega arith)))
 
-  risen : (bs : List Bool) → times true bs ≡ 0 → 1 ≤ times false bs → below0 (total top k bs (negsuc k)) ≡ false
+  risen : (bs : List Bool) → times true bs ≡ 0 → 1 ≤ times false bs → hard (total top k bs (negsuc k)) ≡ false
   unfolding height sums step times
   risen [] q p = absurd (omega arith)
   risen (true ∷ bs) q p = absurd (omega arith)
@@ -125,7 +125,7 @@ module _ (top k : ℕ) (fits : suc k ≤ top) where
       high (total top k (false ∷ bs) (negsuc k))
       (rw (total-height (false ∷ bs) (negsuc k) (level-mag true)) (up-none bs (min (top - k + suc k) (suc top + top)) q (omega arith)))
 
-  fallen : (bs : List Bool) → times false bs ≡ 0 → 2 ≤ times true bs → below0 (total top k bs (pos (suc k))) ≡ true
+  fallen : (bs : List Bool) → times false bs ≡ 0 → 2 ≤ times true bs → hard (total top k bs (pos (suc k))) ≡ true
   unfolding height sums step times
   fallen [] q p = absurd (omega arith)
   fallen (false ∷ bs) q p = absurd (omega arith)
@@ -157,11 +157,11 @@ module _ (odd : ℕ → Bool) where
 
   module _ (top k : ℕ) (fits : suc k ≤ top) (cs : List ℕ) (three : 3 ≤ length cs) where
     -- at most one of the others is turned: the bit stays
-    pub stays : (b : Bool) → tested odd cs ≤ 1 → below0 (total top k (signs odd b cs) (level k b)) ≡ b
+    pub stays : (b : Bool) → tested odd cs ≤ 1 → hard (total top k (signs odd b cs) (level k b)) ≡ b
     stays true h = kept-down top k fits (signs odd true cs) (omega (arith, counts true cs .0)) (omega (arith, counts true cs .0, counts true cs .1))
     stays false h = kept-up top k fits (signs odd false cs) (omega (arith, counts false cs .0))
 
     -- all others are turned: so is the bit
-    pub turns : (b : Bool) → tested odd cs ≡ length cs → below0 (total top k (signs odd b cs) (level k b)) ≡ not b
+    pub turns : (b : Bool) → tested odd cs ≡ length cs → hard (total top k (signs odd b cs) (level k b)) ≡ not b
     turns false h = fallen top k fits (signs odd false cs) (omega (arith, counts false cs .1)) (omega (arith, counts false cs .0))
     turns true h = risen top k fits (signs odd true cs) (omega (arith, counts true cs .1)) (omega (arith, counts true cs .0))

@@ -16,7 +16,7 @@ use Rattle.maths.proofs.Slices.{replicate-at}
 use Rattle.codes.specs.Edges.{Edge, inRange}
 use Rattle.codes.specs.Equations.{bitsOf, checksOf, par}
 use Rattle.matrices.proofs.Edges.{ranged-first}
-use Rattle.min_sum.specs.Soft.{satAdd}
+use Rattle.min_sum.specs.Soft.{add}
 use Rattle.min_sum.specs.Confidence.{Confidence, whole}
 use Rattle.min_sum.specs.MinSum.{link, numbered, Messages, at, hardBits, newU, addMessage, restarted, renewed, start, pass}
 use Rattle.min_sum.proofs.Marginals.{start-quiet, pass-marginals, first-hard}
@@ -58,9 +58,9 @@ module _ (top k : ℕ) (fits : suc k ≤ top) where
       abbrev after : Messages ℤ
       after = addMessage o (link j (e .check) (e .bit)) s
 
-      after-marginals : after .marginals ≡ set (s .marginals) (e .bit) (satAdd top (at o (s .marginals) (e .bit)) (level k sign))
+      after-marginals : after .marginals ≡ set (s .marginals) (e .bit) (add top (at o (s .marginals) (e .bit)) (level k sign))
       unfolding addMessage
-      after-marginals = ap (λ (x : ℤ). set (s .marginals) (e .bit) (satAdd top (at o (s .marginals) (e .bit)) x)) message-is
+      after-marginals = ap (λ (x : ℤ). set (s .marginals) (e .bit) (add top (at o (s .marginals) (e .bit)) x)) message-is
 
       heard-next : Heard (suc j) es after
       unfolding addMessage
@@ -82,12 +82,12 @@ module _ (top k : ℕ) (fits : suc k ≤ top) where
         ∙ rw (after-marginals j e es s q) (go (ℕ-discrete (e .bit) i))
       where
         go : Dec (e .bit ≡ i)
-            → total top k (signs odd (r i) (checksOf es i)) (at o (set (s .marginals) (e .bit) (satAdd top (at o (s .marginals) (e .bit)) (level k (sign j e es s q)))) i)
+            → total top k (signs odd (r i) (checksOf es i)) (at o (set (s .marginals) (e .bit) (add top (at o (s .marginals) (e .bit)) (level k (sign j e es s q)))) i)
             ≡ total top k (signs odd (r i) (pick (eqb (e .bit) i) (e .check ∷ checksOf es i) (checksOf es i))) (at o (s .marginals) i)
-        go (no x) = rw (ne-eqb (e .bit) i x, getD-set-other (s .marginals) (e .bit) i (satAdd top (at o (s .marginals) (e .bit)) (level k (sign j e es s q))) (pos 0) (λ y. x (sym y)))
+        go (no x) = rw (ne-eqb (e .bit) i x, getD-set-other (s .marginals) (e .bit) i (add top (at o (s .marginals) (e .bit)) (level k (sign j e es s q))) (pos 0) (λ y. x (sym y)))
         go (yes x) =
             let low : e .bit < length (s .marginals) = omega (arith, within j e es s q, q .long) in
-            rw (eq-eqb (e .bit) i x, ← x, getD-set-same (s .marginals) (e .bit) (satAdd top (at o (s .marginals) (e .bit)) (level k (sign j e es s q))) (pos 0) low)
+            rw (eq-eqb (e .bit) i x, ← x, getD-set-same (s .marginals) (e .bit) (add top (at o (s .marginals) (e .bit)) (level k (sign j e es s q))) (pos 0) low)
 
   -- ---- pass 0 and then pass 1
   module _ (es : List Edge) (m n : ℕ) (ranged : T (all (inRange m n) es)) (two : (a : ℕ) → a < m → 2 ≤ length (bitsOf es a))
@@ -104,10 +104,10 @@ module _ (top k : ℕ) (fits : suc k ≤ top) where
     whole-long : length (llrs ++ []) ≡ n
     whole-long = length-append llrs [] ∙ omega arith
 
-    still : (i : ℕ) → satAdd top (at o (llrs ++ []) i) (pos 0) ≡ at o (llrs ++ []) i
+    still : (i : ℕ) → add top (at o (llrs ++ []) i) (pos 0) ≡ at o (llrs ++ []) i
     still i = go (decLt i n)
       where
-        go : Dec (i < n) → satAdd top (at o (llrs ++ []) i) (pos 0) ≡ at o (llrs ++ []) i
+        go : Dec (i < n) → add top (at o (llrs ++ []) i) (pos 0) ≡ at o (llrs ++ []) i
         go (yes h) = rw (whole-given i h) (level-add top k fits (r i))
         go (no h) =
             let l : length (llrs ++ []) ≤ i = omega (arith, whole-long) in

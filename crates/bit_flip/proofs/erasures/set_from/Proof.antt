@@ -1,3 +1,4 @@
+-- The loop's invariant: the bytes from the given place up to i are set, the others are as they were.
 use Prim.Native.Nat.{_-_}
 use Rattle.bit_flip.proofs.Votes.{Setting, sets}
 use Rattle.bit_flip.proofs.erasures.set_from.Statement.{statement}

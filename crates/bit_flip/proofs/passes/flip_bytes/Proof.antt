@@ -1,3 +1,4 @@
+-- The loop's invariant: the first i bytes are replaced, the others are as they were.
 use Prim.Native.Nat.{_-_}
 use Rattle.maths.proofs.Mapping.{Mapped, maps}
 use Rattle.bit_flip.specs.Steps.{flipByte}

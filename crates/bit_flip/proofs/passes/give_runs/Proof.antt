@@ -1,3 +1,4 @@
+-- The loop's invariant: the runs left, folded over the present bytes, give what all runs give.
 use Prim.Native.Nat.{_-_}
 use lib.ListN.{length}
 use Rattle.codes.specs.Equations.{wordOf}

@@ -1,0 +1,10 @@
+use Rattle.min_sum.proofs.Ran.{decodes}
+use Rattle.min_sum_i8.proofs.decode_runs.Statement.{statement}
+use Rattle.min_sum_i8.proofs.decode_runs.Tie as tie
+
+pub decode-runs-spec : {M : Type 1} → statement M
+decode-runs-spec =
+    tie.close
+    (tie.spec
+    (λ c. search decodes) (λ c. search decodes) (λ c κs. search decodes) (λ c. search decodes) (λ c. search decodes) (λ c. search decodes)
+    (λ c κs. search decodes) (λ c κs. search decodes) (λ c. search decodes) (λ c. search decodes) (λ c. search decodes) (λ c. search decodes))

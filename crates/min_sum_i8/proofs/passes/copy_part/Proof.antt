@@ -1,0 +1,10 @@
+use Rattle.min_sum.proofs.Splices.{stores}
+use Rattle.min_sum_i8.proofs.passes.copy_part.Statement.{statement}
+use Rattle.min_sum_i8.proofs.passes.copy_part.Tie as tie
+
+pub copy-part-spec : {M : Type 1} → statement M
+copy-part-spec =
+    tie.close
+    (tie.spec
+    (λ c. search stores) (λ c. search stores) (λ c. search stores) (λ c. search stores) (λ c κs. search stores) (λ c. search stores)
+    (λ c. search stores))
