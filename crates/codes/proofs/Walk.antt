@@ -4,7 +4,7 @@ use Prim.Native.Nat.{ℕ, _*_, _≤_, _<_}
 use native.Mathlib.Nat.{mul-le-mul, le-of-lt}
 use borrow.Author.Tests.{lt-ltb}
 use Rattle.maths.specs.Tests.{pick}
-use Rattle.codes.specs.Codes.{maxBits, maxBlock}
+use Rattle.codes.specs.Codes.{maxBlock}
 use Rattle.codes.specs.declared.«parity_iter».Block.{Block}
 use Rattle.codes.specs.declared.«parity_iter».ParityIter.{ParityIter}
 use Rattle.codes.specs.declared.«parity_iter».Step.the-variants.{Finished}
@@ -12,7 +12,7 @@ use Rattle.codes.specs.Blocks.{blockAt}
 use Rattle.codes.specs.Edges.{columnOf}
 use Rattle.codes.specs.Walk.{matrix, placeOf, solid, stands, Inside, nextStep, stepOf}
 
-pub product-low : (r m : ℕ) → r < 11 → m ≤ maxBlock → r * m ≤ maxBits
+pub product-low : (r m : ℕ) → r < 11 → m ≤ maxBlock → r * m ≤ 11 * maxBlock
 product-low r m h k = mul-le-mul (le-of-lt h) k
 
 pub stands-at : (w : ParityIter) → Inside w → stands w ≡ solid (blockAt (matrix w .prototype) (placeOf w))
