@@ -114,6 +114,7 @@ fn answer_of(code: usize, input: usize, output: usize, working: usize) -> u8
     or_length(written, working, row.decode_bf_working_len, WRONG_WORKING)
 }
 
+// Bit flipping on hard bits, at most limit main passes.
 pub fn decode_bf(
     code: usize,
     input: &[u8],

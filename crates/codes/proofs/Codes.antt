@@ -19,7 +19,7 @@ use Rattle.codes.specs.Tables.{prototypes, phis}
 use Rattle.codes.specs.Codes.{codes, Known, known, paramsOf, tcCodes, TC, TM, rows, row, rowOf, bitsIn, checksIn, circulantOf, tables, tablesOf, matrixOf, prototypeOf, maxBits, maxBlock, maxChecks}
 use Rattle.codes.specs.Blocks.{byteAt, blockOf, cellBlocks, rowBlocks, lastRows}
 use Rattle.codes.specs.Edges.{edgeAt, blockEdges, blocksOf, edges}
-use Rattle.codes.specs.Sound.{Sized, Small, Roomy}
+use Rattle.codes.specs.Sound.{BlockSize, Small, Roomy}
 
 -- a length of every row, and of the zeros of a code that is not known, is at most so much
 pub row-most : (length : CodeParams → ℕ) (most : ℕ) → T (leb (length (row 0 0 0 0 0 0)) most) → T (all (λ r. leb (length r) most) rows)
@@ -54,7 +54,7 @@ roomy code h =
       parity-circulants = below-eq codes (λ c. (rowOf c .n - rowOf c .k) / circulantOf c * circulantOf c) (λ c. rowOf c .n - rowOf c .k) tt code h;
     }
 
-pub sized : (code : ℕ) → Known code → Sized (rowOf code .«submatrix_size»)
+pub sized : (code : ℕ) → Known code → BlockSize (rowOf code .«submatrix_size»)
 sized code h = roomy code h .block
 
 -- every bit of a TC code is sent

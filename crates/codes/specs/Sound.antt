@@ -7,7 +7,7 @@ use Rattle.codes.specs.declared.«parity_iter».Block.{Block}
 use Rattle.codes.specs.declared.«parity_iter».Block.the-variants.{Ends, Empty, Identity, Permutation}
 
 -- the size of a block: not too small, not too large, and a multiple of 4
-pub record Sized (m : ℕ) : Type 0 where
+pub record BlockSize (m : ℕ) : Type 0 where
   pub low : 16 ≤ m
   pub high : m ≤ maxBlock
   pub four : m % 4 ≡ 0
@@ -24,7 +24,7 @@ Small (Permutation v) = v < 26
 pub record Roomy (r : CodeParams) : Type 0 where
   pub bits : r .n + r .«punctured_bits» ≤ maxBits
   pub checks : r .n + r .«punctured_bits» - r .k ≤ maxChecks
-  pub block : Sized (r .«submatrix_size»)
+  pub block : BlockSize (r .«submatrix_size»)
   pub k-low : r .k ≤ r .n
   pub data-bytes : 8 * (r .k / 8) ≡ r .k
   pub sent : 8 * (r .n / 8) ≡ r .n

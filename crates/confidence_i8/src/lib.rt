@@ -7,6 +7,7 @@ ghost use Rattle.min_sum.specs.MinSum.{negateIf, newU, newV, newFirst, newSecon
 
 pub mod llrs;
 
+// The largest number.
 pub const TOP: i8 = 127;
 
 // The number nearest to s.

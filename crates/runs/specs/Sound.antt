@@ -6,7 +6,7 @@ use Rattle.codes.specs.declared.«parity_iter».Place.{Place}
 use Rattle.codes.specs.declared.«parity_iter».Block.{Block}
 use Rattle.codes.specs.Codes.{Matrix}
 use Rattle.codes.specs.Blocks.{byteAt, blockOf, blockAt, blocks}
-use Rattle.codes.specs.Sound.{Sized, Small}
+use Rattle.codes.specs.Sound.{BlockSize, Small}
 use Rattle.runs.specs.Runs.{room, blockRuns}
 
 -- the runs of a turned identity fit after t others
@@ -18,7 +18,7 @@ pub record TurnFits (t a v turn size : ℕ) : Type 0 where
 
 -- those of quarter j of a permutation do
 pub record QuarterFits (t a v m value j : ℕ) : Type 0 where
-  pub sized : Sized m
+  pub sized : BlockSize m
   pub free : t + 2 ≤ room
   pub check-low : a + m < 65536
   pub bit-low : v + m < 65536
@@ -27,7 +27,7 @@ pub record QuarterFits (t a v m value j : ℕ) : Type 0 where
 
 -- those of a block do
 pub record BlockFits (t a v m : ℕ) (k : Block) : Type 0 where
-  pub sized : Sized m
+  pub sized : BlockSize m
   pub free : t + 8 ≤ room
   pub check-low : a + m < 65536
   pub bit-low : v + m < 65536
@@ -42,6 +42,6 @@ pub record PlaceFits (x : Matrix) (t : ℕ) (p : Place) : Type 0 where
 
 -- those of all blocks of a matrix do, which are of the kinds that the tables serve
 pub record RunsFit (x : Matrix) : Type 0 where
-  pub sized : Sized (x .size)
+  pub sized : BlockSize (x .size)
   pub small : (l r c : ℕ) → Small (blockOf (byteAt (x .prototype) l r c))
   pub few : length (flatMap (blockRuns x) (blocks (x .prototype))) + 8 ≤ room
