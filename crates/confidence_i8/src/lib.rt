@@ -4,8 +4,11 @@ ghost use Rattle.maths.specs.Tests.{pick};
 ghost use Rattle.min_sum.specs.Soft.{clamp};
 ghost use Rattle.min_sum.specs.Confidence.{i8};
 ghost use Rattle.min_sum.specs.MinSum.{negateIf, newU, newV, newFirst, newSecond};
+ghost use Rattle.min_sum.specs.Working.{markOf};
+use min_sum::marks::mark;
 
 pub mod llrs;
+pub mod parts;
 
 // The largest number.
 pub const TOP: i8 = 127;
@@ -42,13 +45,13 @@ fn negate(a: i8) -> i8
     subtract(0, a)
 }
 
-pub fn magnitude(a: i8) -> i8
+fn magnitude(a: i8) -> i8
     ensures { λ r. ⌜ r ≡ i8 .magnitude a ⌝ }
 {
     if a < 0 { subtract(0, a) } else { a }
 }
 
-pub fn hard(a: i8) -> bool
+fn hard(a: i8) -> bool
     ensures { λ r. ⌜ r ≡ i8 .hard a ⌝ }
 {
     a < 0
@@ -96,15 +99,24 @@ pub fn new_v(marginal: i8, u: i8, v: i8) -> i8
     pick(hard(x) == hard(v), x, pick(same(v, 0), x, 0))
 }
 
-// The minima of a check, after one more message of size m.
-pub fn new_first(m: i8, first: i8) -> i8
-    ensures { λ r. ⌜ r ≡ newFirst i8 m first ⌝ }
+// The minima of a check, after one more message v.
+pub fn new_first(v: i8, first: i8) -> i8
+    ensures { λ r. ⌜ r ≡ newFirst i8 (i8 .magnitude v) first ⌝ }
 {
+    let m = magnitude(v);
     pick(less(m, first), m, first)
 }
 
-pub fn new_second(m: i8, first: i8, second: i8) -> i8
-    ensures { λ r. ⌜ r ≡ newSecond i8 m first second ⌝ }
+pub fn new_second(v: i8, first: i8, second: i8) -> i8
+    ensures { λ r. ⌜ r ≡ newSecond i8 (i8 .magnitude v) first second ⌝ }
 {
+    let m = magnitude(v);
     pick(less(m, first), first, pick(less(m, second), m, second))
+}
+
+// What a message v turns in its check's byte, and its bit's marginal.
+pub fn new_mark(v: i8, marginal: i8) -> u8
+    ensures { λ r. ⌜ r ≡ markOf (i8 .hard v) (i8 .hard marginal) ⌝ }
+{
+    mark(hard(v), hard(marginal))
 }

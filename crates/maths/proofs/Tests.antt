@@ -3,13 +3,13 @@ use mathlib.Core.Bool.{Bool, true, false}
 use mathlib.Core.Logic.{⊎-elim}
 use mathlib.Core.Path.{_≡_, refl, sym, _∙_, subst}
 use mathlib.Core.List.{List, [], _∷_, _++_, flatMap}
-use Prim.Native.Nat.{ℕ, zero, suc, _+_, _<_}
+use Prim.Native.Nat.{ℕ, zero, suc, _+_, _-_, _≤_, _<_}
 use native.Mathlib.Nat.{add-zero, add-suc, suc-add, le-of-suc-le-suc, not-suc-le-zero, eq-or-lt-of-le}
-use native.Mathlib.Decide.{ℕ-discrete}
+use native.Mathlib.Decide.{ℕ-discrete, decLe}
 use native.Mathlib.Omega.{arith}
-use lib.Dec.{T, eqb, eqb→eq}
+use lib.Dec.{T, eqb, eqb→eq, leb}
 use lib.ListN.{length, getD}
-use borrow.Author.Tests.{ne-eqb}
+use borrow.Author.Tests.{ne-eqb, le-leb, lt-leb}
 use Rattle.maths.specs.Tests.{pick, both, all, below}
 use Rattle.maths.specs.Lists.{span}
 
@@ -55,6 +55,17 @@ eqb-swap x y = go (ℕ-discrete x y)
     go (no e) = ne-eqb x y e ∙ sym (ne-eqb y x (λ q. e (sym q)))
 
 -- of the element at an index below the length
+-- n elements from v on, of l
+pub room-none : (v n l : ℕ) → l < n → false ≡ leb (v + n) l
+room-none v n l h = sym (lt-leb (v + n) l (omega arith))
+
+pub room-left : (v n l : ℕ) → n ≤ l → leb v (l - n) ≡ leb (v + n) l
+room-left v n l h = go (decLe v (l - n))
+  where
+    go : Dec (v ≤ l - n) → leb v (l - n) ≡ leb (v + n) l
+    go (yes q) = le-leb v (l - n) q ∙ sym (le-leb (v + n) l (omega arith))
+    go (no q) = lt-leb v (l - n) (omega arith) ∙ sym (lt-leb (v + n) l (omega arith))
+
 pub all-at : {A : Type 0} (f : A → Bool) (d : A) (xs : List A) → T (all f xs) → (k : ℕ) → k < length xs → T (f (getD xs k d))
 all-at f d [] t k h = absurd (not-suc-le-zero h)
 all-at f d (x ∷ xs) t zero h = both-left (f x) (all f xs) t

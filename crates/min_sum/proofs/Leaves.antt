@@ -14,6 +14,7 @@ use Rattle.maths.specs.Tests.{pick}
 use Rattle.min_sum.specs.Soft.{clamp, add, subtract, magnitude, hard, negate, same, less}
 use Rattle.min_sum.specs.Confidence.{whole}
 use Rattle.min_sum.specs.MinSum.{negateIf, newU, newV, newFirst, newSecond}
+use Rattle.min_sum.specs.Working.{markOf}
 use Rattle.min_sum.proofs.Signed.{back, widens, sum-fits, sum-is, difference-fits, difference-is, sign-of, eq-of, below-magnitude, above-magnitude, clamp-over, clamp-under, clamp-within}
 
 -- the number that the machine reads back
@@ -57,6 +58,9 @@ module _ (w : Width) where
   unfolding less
   less-is a b fa fb = rw (toZ-ofZ fa, toZ-ofZ fb)
 
+  pub mark-is : (v x : ℤ) (p q : Bool) (c : ℕ) → c ≡ markOf p q → p ≡ hard (read w v) → q ≡ hard (read w x) → SFits w v → SFits w x → c ≡ markOf (hard v) (hard x)
+  mark-is v x p q c e ep eq fv fx = rw (e, ep, eq, toZ-ofZ fv, toZ-ofZ fx)
+
   pub either-left : (a b : ℤ) (h : Bool) → h ≡ true → SFits w a → read w a ≡ pick h a b
   either-left a b h e f = rw e (toZ-ofZ f)
 
@@ -95,14 +99,15 @@ module _ (w : Width) (top : ℕ) where
   new-v-is m u v x y r h g s e k ey ky eh eg es ex kx fm fu fv =
       rw (back w r k, e, back w y ky, ey, eh, eg, es, back w x kx, ex, toZ-ofZ fm, toZ-ofZ fu, toZ-ofZ fv)
 
-  pub new-first-is : (m f r : ℤ) (b : Bool) → r ≡ pick b (read w m) (read w f) → Low w r → b ≡ less (read w m) (read w f) → SFits w m → SFits w f
-      → read w r ≡ newFirst (whole top) m f
-  new-first-is m f r b e k eb fm ff = rw (back w r k, e, eb, toZ-ofZ fm, toZ-ofZ ff)
+  pub new-first-is : (v m f r : ℤ) (b : Bool) → r ≡ pick b (read w m) (read w f) → Low w r → b ≡ less (read w m) (read w f) → m ≡ magnitude top (read w v) → Low w m
+      → SFits w v → SFits w f → read w r ≡ newFirst (whole top) (magnitude top v) f
+  new-first-is v m f r b e k eb em km fv ff = rw (back w r k, e, eb, back w m km, em, toZ-ofZ fv, toZ-ofZ ff)
 
-  pub new-second-is : (m f s x r : ℤ) (b g : Bool) → r ≡ pick b (read w f) (read w x) → Low w r → x ≡ pick g (read w m) (read w s) → Low w x
-      → b ≡ less (read w m) (read w f) → g ≡ less (read w m) (read w s) → SFits w m → SFits w f → SFits w s
-      → read w r ≡ newSecond (whole top) m f s
-  new-second-is m f s x r b g e k ex kx eb eg fm ff fs = rw (back w r k, e, back w x kx, ex, eb, eg, toZ-ofZ fm, toZ-ofZ ff, toZ-ofZ fs)
+  pub new-second-is : (v m f s x r : ℤ) (b g : Bool) → r ≡ pick b (read w f) (read w x) → Low w r → x ≡ pick g (read w m) (read w s) → Low w x
+      → b ≡ less (read w m) (read w f) → g ≡ less (read w m) (read w s) → m ≡ magnitude top (read w v) → Low w m → SFits w v → SFits w f → SFits w s
+      → read w r ≡ newSecond (whole top) (magnitude top v) f s
+  new-second-is v m f s x r b g e k ex kx eb eg em km fv ff fs =
+      rw (back w r k, e, back w x kx, ex, eb, eg, back w m km, em, toZ-ofZ fv, toZ-ofZ ff, toZ-ofZ fs)
 
 pub ruleset soft =
-    (widens, sum-fits, difference-fits, sum-clamped, difference-clamped, over-is, under-is, within-fits, within-is, hard-is, less-is, eq-of, either-left, either-right, sub-from-zero, magnitude-below, magnitude-above, negate-if-is, new-u-is, new-v-is, new-first-is, new-second-is, needs)
+    (widens, sum-fits, difference-fits, sum-clamped, difference-clamped, over-is, under-is, within-fits, within-is, hard-is, less-is, eq-of, either-left, either-right, sub-from-zero, magnitude-below, magnitude-above, negate-if-is, new-u-is, new-v-is, new-first-is, new-second-is, mark-is, needs)

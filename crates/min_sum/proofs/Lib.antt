@@ -13,4 +13,3 @@ pub mod Leaves
 pub mod Loops
 pub mod Stores
 pub mod HardBits
-pub mod Splices

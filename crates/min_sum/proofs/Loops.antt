@@ -21,8 +21,7 @@ use Rattle.maths.specs.Bytes.{byte, pack}
 use Rattle.maths.proofs.Budget.{run-first, run-more, run-stop, run-out}
 use Rattle.maths.proofs.Lists.{span-turn, span-end}
 use Rattle.maths.proofs.Bytes.{byte-from}
-use Rattle.maths.proofs.Slices.{span-again}
-use Rattle.maths.proofs.Writing.{Written, written-none, written-more, written-in, written-all, filled}
+use Rattle.maths.proofs.Writing.{Written, written-none, written-more, written-in, written-all}
 use Rattle.runs.specs.Runs.{run, runEdges, readRuns}
 use Rattle.runs.specs.declared.EdgeRun.{EdgeRun}
 use Rattle.min_sum.specs.declared.layout.Layout.{Layout}
@@ -100,25 +99,9 @@ module _ {S : Type 0} {step : Link → S → S} {l : Layout} {ns : List ℕ} whe
         }
 
 -- ---- lists that are written from the front
--- its elements are those of another list, or the bytes of bits
-pub record Copied {A : Type 0} (d : A) (from to₀ : List A) (i : ℕ) (to : List A) : Type 0 where
-  pub written : Written (λ k. getD from k d) to₀ i to
-
+-- its elements are the bytes of bits
 pub record Packed (g : ℕ → ℕ) (out₀ : List ℕ) (i : ℕ) (out : List ℕ) : Type 0 where
   pub written : Written (byte g) out₀ i out
-
-module _ {A : Type 0} {d : A} {from to₀ : List A} where
-  pub copied-none : Copied d from to₀ 0 to₀
-  copied-none = record { written = written-none }
-
-  pub copied-more : {i : ℕ} {to : List A} {x : A} → Copied d from to₀ i to → i < length from → length to₀ ≡ length from → x ≡ getD from i d → Copied d from to₀ (i + 1) (set to i x)
-  copied-more r h e t = record { written = written-more (r .written) h (sym e) t }
-
-  pub copied-in : {i : ℕ} {to : List A} → Copied d from to₀ i to → i < length from → length to₀ ≡ length from → i < length to
-  copied-in r h e = written-in (r .written) h (sym e)
-
-  pub copied : {i : ℕ} {to : List A} → Copied d from to₀ i to → length from ≤ i → length to₀ ≡ length from → to ≡ from
-  copied r h e = written-all (r .written) h (sym e) ∙ rw e (span-again d from)
 
 module _ {g : ℕ → ℕ} {out₀ : List ℕ} where
   pub packed-none : Packed g out₀ 0 out₀
@@ -206,7 +189,7 @@ module _ {C : Type 0} (o : Confidence C) where
       Trying (turn o (flatMap runEdges (readRuns runs)) (l .checks) (l .bits - length llrs) llrs) limit pass (length w₀) (length marks₀) (length w) (length marks) (held l w₀ marks₀) (held l w marks)
 
 pub ruleset loops =
-    (run-begins, run-sized, run-inside, run-again, run-ends, pass-begins, pass-sized, pass-inside, pass-fits, pass-again, pass-ends, written-none, written-more, written-in, filled, copied-none, copied-more, copied-in, copied, needs)
+    (run-begins, run-sized, run-inside, run-again, run-ends, pass-begins, pass-sized, pass-inside, pass-fits, pass-again, pass-ends, needs)
 
 pub ruleset unpacks = (unpacked-none, unpacked-asks, unpacked-in, unpacked-more, unpacked, read-is, needs)
 

@@ -2,7 +2,7 @@
 ghost use mathlib.Core.List.{[], flatMap};
 ghost use mathlib.Core.Path.{_≡_};
 ghost use Prim.Native.Nat.{_-_, _*_};
-ghost use lib.ListN.{length};
+ghost use lib.ListN.{length, replicate};
 ghost use Rattle.runs.specs.Runs.{runEdges, readRuns};
 ghost use Rattle.report.specs.Report.{ending};
 ghost use Rattle.min_sum.specs.Confidence.{i8};
@@ -15,18 +15,18 @@ mod passes;
 use codes::ACCEPTED;
 use codes::MAX_CHECKS;
 use confidence_i8::llrs::pack;
+use confidence_i8::parts::fill;
 use min_sum::layout::Layout;
 use min_sum::layout::layout_of;
 use min_sum::refusals::decode_refusal;
-use passes::fill;
-use passes::run_cleared;
+use passes::run_passes;
 use report::Ended;
 use report::Report;
 use report::finished;
 use report::refused;
 use runs::runs_of;
 
-// The run of passes over the runs, with a byte for each check.
+// The run of passes over the runs, from buffers of zeros: the working buffer is cleared first, and again at the end.
 fn decode_runs(
     marks: &mut [u8],
     runs: &[u16],
@@ -36,14 +36,16 @@ fn decode_runs(
     working: &mut [i8],
     limit: usize,
 ) -> Ended
-    requires { ⌜ Sized at (length (now working)) (length (now marks)) × (Ready at (readRuns (now runs)) (length (now llrs)) × (8 * length (now output) ≡ at .bits)) ⌝ }
+    requires { ⌜ Sized at (length (now working)) (length (now marks)) × ((now marks ≡ replicate (at .checks) 0) × (Ready at (readRuns (now runs)) (length (now llrs)) × (8 * length (now output) ≡ at .bits))) ⌝ }
     ensures { λ r. ⌜ left (ending (r .success) (r .iters)) (now (output .exit)) (now (working .exit)) [] ≡ finishedAs i8 (ranOver i8 (flatMap runEdges (readRuns (now (runs .entry)))) (at .checks) (at .bits - length (now (llrs .entry))) (now (llrs .entry)) limit) (length (now (working .entry))) 0 ⌝ }
 {
-    let sums = 2 * at.edges;
-    let minima = sums + at.bits;
-    let found = run_cleared(working, marks, llrs, at, runs, limit);
-    pack(output, &working[sums..minima]);
-    fill(working, 0);
+    let len = working.len();
+    let from = at.marginals;
+    let to = at.first;
+    fill(working, 0, len, 0);
+    let found = run_passes(working, marks, llrs, at, runs, limit);
+    pack(output, &working[from..to]);
+    fill(working, 0, len, 0);
     found
 }
 

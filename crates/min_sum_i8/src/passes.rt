@@ -4,27 +4,26 @@ ghost use mathlib.Core.List.{List, flatMap};
 ghost use Prim.Native.Nat.{ℕ, _+_, _-_, _*_, _≤_};
 ghost use lib.ListN.{length, replicate};
 ghost use Rattle.maths.specs.Tests.{pick};
-ghost use Rattle.maths.specs.Parts.{spliced};
 ghost use Rattle.maths.specs.Budget as budget;
 ghost use Rattle.maths.specs.Budget.{stop, go, end};
 ghost use Rattle.maths.specs.Lists.{fold};
 ghost use Rattle.runs.specs.Runs.{runEdges, readRuns};
 ghost use Rattle.min_sum.specs.Confidence.{i8};
 ghost use Rattle.min_sum.specs.MinSum.{link, numbered, addMessage, restarted, renewed, turn};
-ghost use Rattle.min_sum.specs.Working.{held, heldChecked, takeChecked, runLinks, ranOver, Sized, Inside, Rest, Ready};
+ghost use Rattle.min_sum.specs.Working.{held, heldChecked, takeChecked, runLinks, Sized, Inside, Rest, Ready};
 use codes::parity_iter::Bit;
 use codes::parity_iter::Check;
 use confidence_i8::TOP;
 use confidence_i8::add;
-use confidence_i8::hard;
-use confidence_i8::magnitude;
 use confidence_i8::new_first;
+use confidence_i8::new_mark;
 use confidence_i8::new_second;
 use confidence_i8::new_u;
 use confidence_i8::new_v;
+use confidence_i8::parts::copy;
+use confidence_i8::parts::fill;
 use min_sum::layout::Layout;
 use min_sum::marks::all_even;
-use min_sum::marks::mark;
 use min_sum::marks::negative;
 use report::Ended;
 use runs::EdgeRun;
@@ -37,9 +36,9 @@ fn add_message(w: &mut [i8], marks: &[u8], at: Layout, e: usize, check: Check, b
 {
     let a = check.0;
     let v = at.edges + e;
-    let first = 2 * at.edges + at.bits + a;
-    let second = first + at.checks;
-    let sum = 2 * at.edges + bit.0;
+    let first = at.first + a;
+    let second = at.second + a;
+    let sum = at.marginals + bit.0;
     let marginal = w[sum];
     let u = new_u(w[v], w[first], w[second], negative(marks[a]));
     w[e] = u;
@@ -53,18 +52,16 @@ fn take_message(w: &mut [i8], marks: &mut [u8], at: Layout, e: usize, check: Che
 {
     let a = check.0;
     let old = at.edges + e;
-    let least = 2 * at.edges + at.bits + a;
-    let next = least + at.checks;
-    let sum = 2 * at.edges + bit.0;
-    let marginal = w[sum];
+    let least = at.first + a;
+    let next = at.second + a;
+    let marginal = w[at.marginals + bit.0];
     let first = w[least];
     let second = w[next];
     let v = new_v(marginal, w[e], w[old]);
-    let m = magnitude(v);
     w[old] = v;
-    w[least] = new_first(m, first);
-    w[next] = new_second(m, first, second);
-    marks[a] = marks[a] ^ mark(hard(v), hard(marginal));
+    w[least] = new_first(v, first);
+    w[next] = new_second(v, first, second);
+    marks[a] = marks[a] ^ new_mark(v, marginal);
 }
 
 // A run of edges: (check + i, bit + i), numbered e + i.
@@ -129,49 +126,14 @@ fn take_runs(w: &mut [i8], marks: &mut [u8], at: Layout, runs: &[u16])
     }
 }
 
-pub(crate) fn fill(w: &mut [i8], x: i8)
-    ensures { λ _. ⌜ now (w .exit) ≡ replicate (length (now (w .entry))) x ⌝ }
-{
-    for i in 0..w.len() {
-        w[i] = x;
-    }
-}
-
-fn copy(to: &mut [i8], from: &[i8])
-    requires { ⌜ length (now to) ≡ length (now from) ⌝ }
-    ensures { λ _. ⌜ now (to .exit) ≡ now (from .entry) ⌝ }
-{
-    for i in 0..from.len() {
-        to[i] = from[i];
-    }
-}
-
-// The numbers from a on become x, up to b.
-fn fill_part(w: &mut [i8], a: usize, b: usize, x: i8)
-    requires { ⌜ (a ≤ b) × (b ≤ length (now w)) ⌝ }
-    ensures { λ _. ⌜ now (w .exit) ≡ spliced a (replicate (b - a) x) (now (w .entry)) ⌝ }
-{
-    fill(&mut w[a..b], x);
-}
-
-// The numbers from a on become those of another list.
-fn copy_part(w: &mut [i8], a: usize, from: &[i8])
-    requires { ⌜ a + length (now from) ≤ length (now w) ⌝ }
-    ensures { λ _. ⌜ now (w .exit) ≡ spliced a (now (from .entry)) (now (w .entry)) ⌝ }
-{
-    let b = a + from.len();
-    copy(&mut w[a..b], from);
-}
-
 // The marginals restart as the LLRs, 0 for bits that are not sent.
 fn restart(w: &mut [i8], at: Layout, llrs: &[i8])
-    requires { ⌜ (length (now w) ≡ 2 * at .edges + at .bits + 2 * at .checks) × (length (now llrs) ≤ at .bits) ⌝ }
+    requires { ⌜ Sized at (length (now w)) (at .checks) × (length (now llrs) ≤ at .bits) ⌝ }
     ensures { λ _. ⌜ ((s : List ℕ) → held at (now (w .exit)) s ≡ restarted i8 (now (llrs .entry)) (at .bits - length (now (llrs .entry))) (held at (now (w .entry)) s)) ⌝ }
 {
-    let sums = 2 * at.edges;
-    let end = sums + at.bits;
-    copy_part(w, sums, llrs);
-    fill_part(w, sums + llrs.len(), end, 0);
+    let n = llrs.len();
+    copy(w, at.marginals, llrs);
+    fill(w, at.marginals + n, at.bits - n, 0);
 }
 
 // The minima restart at the largest number, the signs at plus.
@@ -179,8 +141,7 @@ fn renew(w: &mut [i8], marks: &mut [u8], at: Layout)
     requires { ⌜ Sized at (length (now w)) (length (now marks)) ⌝ }
     ensures { λ _. ⌜ (now (marks .exit) ≡ replicate (at .checks) 0) × (held at (now (w .exit)) (now (marks .exit)) ≡ renewed i8 (at .checks) (held at (now (w .entry)) (now (marks .entry)))) ⌝ }
 {
-    let minima = 2 * at.edges + at.bits;
-    fill_part(w, minima, minima + 2 * at.checks, TOP);
+    fill(w, at.first, 2 * at.checks, TOP);
     bits::clear(marks); // plus, and even
 }
 
@@ -196,7 +157,7 @@ fn one_pass(w: &mut [i8], marks: &mut [u8], llrs: &[i8], at: Layout, runs: &[u16
     all_even(marks)
 }
 
-fn run_passes(
+pub(crate) fn run_passes(
     w: &mut [i8],
     marks: &mut [u8],
     llrs: &[i8],
@@ -219,21 +180,4 @@ fn run_passes(
         success: false,
         iters: limit,
     }
-}
-
-// The run of passes over buffers that are cleared first.
-pub(crate) fn run_cleared(
-    w: &mut [i8],
-    marks: &mut [u8],
-    llrs: &[i8],
-    at: Layout,
-    runs: &[u16],
-    limit: usize,
-) -> Ended
-    requires { ⌜ Sized at (length (now w)) (length (now marks)) × Ready at (readRuns (now runs)) (length (now llrs)) ⌝ }
-    ensures { λ r. ⌜ end (r .success) (r .iters) (held at (now (w .exit)) (now (marks .exit))) ≡ ranOver i8 (flatMap runEdges (readRuns (now (runs .entry)))) (at .checks) (at .bits - length (now (llrs .entry))) (now (llrs .entry)) limit ⌝ }
-{
-    fill(w, 0);
-    bits::clear(marks);
-    run_passes(w, marks, llrs, at, runs, limit)
 }

@@ -4,14 +4,13 @@ use mathlib.Core.List.{List, [], _∷_, flatMap}
 use mathlib.Core.Path.{_≡_, refl, sym, _∙_}
 use Prim.Native.Nat.{ℕ, zero, suc, _+_, _-_, _*_, _/_, _≤_, _<_}
 use native.Mathlib.Omega.{arith}
-use native.Mathlib.Decide.{decLe}
 use borrow.Author.Needs.{needs}
 use borrow.Author.Tests.{leb-true, le-leb, lt-leb}
 use lib.Dec.{leb}
 use lib.ListN.{length, getD, List·getD-eq-default}
 use Rattle.maths.specs.Tests.{pick}
 use Rattle.maths.specs.Lists.{fold, keep}
-use Rattle.maths.proofs.Tests.{both-first, both-second, both-false}
+use Rattle.maths.proofs.Tests.{both-first, both-second, both-false, room-left}
 use Rattle.maths.proofs.Lists.{fold-append}
 use Rattle.codes.specs.Edges.{Edge}
 use Rattle.runs.specs.Runs.{Run, run, runEdges, within, readRuns, laid}
@@ -67,11 +66,7 @@ module _ (m n a v l : ℕ) where
   pub low-check : a ≤ m - l → l ≤ m → l ≤ n → leb v (n - l) ≡ within m n (run a v l)
   low-check h k j =
       let w : a + l ≤ m = omega arith in
-      rw (le-leb (a + l) m w) (go (decLe v (n - l)))
-    where
-      go : Dec (v ≤ n - l) → leb v (n - l) ≡ leb (v + l) n
-      go (yes q) = le-leb v (n - l) q ∙ sym (le-leb (v + l) n (omega arith))
-      go (no q) = lt-leb v (n - l) (omega arith) ∙ sym (lt-leb (v + l) n (omega arith))
+      rw (le-leb (a + l) m w) (room-left v l n j)
 
   pub within-low : within m n (run a v l) ≡ true → (a + l ≤ m) × (v + l ≤ n)
   within-low e = (leb-true (a + l) m (both-first (leb (a + l) m) (leb (v + l) n) e), leb-true (v + l) n (both-second (leb (a + l) m) (leb (v + l) n) e))

@@ -6,4 +6,4 @@ pub new-first-spec : {M : Type 1} → statement M
 new-first-spec =
     tie.close
     (tie.spec
-    (λ c κs. search soft) (λ c κs. search soft) (λ c. search soft))
+    (λ c κs. search soft) (λ c κs. search soft) (λ c κs. search soft) (λ c. search soft))

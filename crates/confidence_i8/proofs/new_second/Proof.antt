@@ -6,4 +6,4 @@ pub new-second-spec : {M : Type 1} → statement M
 new-second-spec =
     tie.close
     (tie.spec
-    (λ c κs. search soft) (λ c κs. search soft) (λ c κs. search soft) (λ c κs. search soft) (λ c. search soft))
+    (λ c κs. search soft) (λ c κs. search soft) (λ c κs. search soft) (λ c κs. search soft) (λ c κs. search soft) (λ c. search soft))

@@ -7,5 +7,5 @@ decode-spec =
     tie.close
     (tie.spec
     (λ c κs. search decodes) (λ c κs. search decodes) (λ c. search decodes) (λ c κs. search decodes) (λ c. search decodes) (λ c. search decodes)
-    (λ c. search decodes) (λ c. search decodes) (λ c κs. (search decodes, (search decodes, search decodes))) (λ c. search decodes)
+    (λ c. search decodes) (λ c. search decodes) (λ c κs. (search decodes, (search decodes, (search decodes, search decodes)))) (λ c. search decodes)
     (λ c. search decodes) (λ c. search decodes) (λ c. search decodes))

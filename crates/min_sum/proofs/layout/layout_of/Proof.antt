@@ -6,4 +6,5 @@ pub layout-of-spec : {M : Type 1} → statement M
 layout-of-spec =
     tie.close
     (tie.spec
-    (λ c κs. search layouts) (λ c. search layouts) (λ c. search layouts) (λ c. search layouts) (λ c. search layouts))
+    (λ c κs. search layouts) (λ c. search layouts) (λ c. search layouts) (λ c. search layouts) (λ c. search layouts) (λ c. search layouts)
+    (λ c. search layouts) (λ c. search layouts))

@@ -6,5 +6,4 @@ pub renew-spec : {M : Type 1} → statement M
 renew-spec =
     tie.close
     (tie.spec
-    (λ c. search passes) (λ c. search passes) (λ c. search passes) (λ c. search passes) (λ c κs. search passes) (λ c κs. search passes)
-    (λ c. search passes) (λ c. search passes) (λ c. (search passes, search passes)))
+    (λ c. search passes) (λ c κs. search passes) (λ c κs. search passes) (λ c. search passes) (λ c. search passes) (λ c. (search passes, search passes)))

@@ -6,5 +6,4 @@ pub restart-spec : {M : Type 1} → statement M
 restart-spec =
     tie.close
     (tie.spec
-    (λ c. search passes) (λ c. search passes) (λ c κs. search passes) (λ c. search passes) (λ c κs. search passes) (λ c. search passes)
-    (λ c. search passes))
+    (λ c κs. search passes) (λ c. search passes) (λ c. search passes) (λ c κs. search passes) (λ c. search passes) (λ c. search passes))
