@@ -26,7 +26,7 @@ use Rattle.min_sum.specs.MinSum.{hardBits}
 use Rattle.min_sum.specs.Outcomes.{left, decodeAnswer, decodeOutcome}
 use Rattle.min_sum.proofs.Answers.{decode-lent}
 use Rattle.min_sum.proofs.Success.{at-once, steady}
-use Rattle.sheet_text.specs.Text.{ascii}
+use Rattle.sheet_values.specs.Spelling.{ascii}
 use Rattle.sheet.specs.Sheet.{flippedText, answerTo, sheetOf}
 use Rattle.sheet_text.proofs.Examples.{document-read, document-printed}
 use Rattle.agreement.specs.Examples.{zeros, Examples}

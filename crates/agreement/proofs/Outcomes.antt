@@ -32,9 +32,10 @@ use Rattle.bit_flip.specs.Outcome as flip
 use Rattle.min_sum.specs.Confidence.{i8}
 use Rattle.min_sum.specs.Outcomes.{Outcome, left, decodeOutcome, Written, written, toLlrsOutcome, toHardOutcome}
 use Rattle.labrador_ldpc.specs.Doors.{Row, row, paramsOutcome, Hard, hard, hardDoor, Soft, soft, softDoor}
+use Rattle.sheet_values.specs.Values.{unhexed}
 use Rattle.sheet_text.specs.declared.read.Reading.{Reading}
 use Rattle.sheet_text.specs.declared.print.Answer.{Answer}
-use Rattle.sheet_text.specs.Reading.{unhexed, readOf, textNumber, readAnswer}
+use Rattle.sheet_text.specs.Reading.{readOf, textNumber, readAnswer}
 use Rattle.sheet_text.specs.Printing.{printed, maxOutput, answerOf}
 use Rattle.sheet.specs.Sheet.{sheetOf}
 use Rattle.measure.specs.Sum.{sumOf}

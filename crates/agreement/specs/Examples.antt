@@ -18,7 +18,7 @@ use Rattle.bit_flip.specs.Outcome as flip
 use Rattle.min_sum.specs.Confidence.{i8}
 use Rattle.min_sum.specs.MinSum.{hardBits}
 use Rattle.min_sum.specs.Outcomes.{left, decodeAnswer, decodeOutcome}
-use Rattle.sheet_text.specs.Text.{ascii}
+use Rattle.sheet_values.specs.Spelling.{ascii}
 use Rattle.sheet.specs.Sheet.{sheetOf}
 
 -- n zero bytes

@@ -10,12 +10,13 @@ use mir.Syntax.{w64}
 use mir.Val.{Fits}
 use Rattle.report.specs.declared.Report.{Report}
 use Rattle.report.specs.Report.{refusal}
+use Rattle.sheet_values.specs.Values.{unhexed}
 use Rattle.sheet_text.specs.declared.print.Answer.{Answer}
 use Rattle.sheet_text.specs.declared.read.Reading.{Reading}
 use Rattle.sheet_text.specs.declared.read.Reading.the-variants.{Malformed, Asks}
 use Rattle.sheet_text.specs.declared.read.Request.{Request}
 use Rattle.sheet_text.specs.Printing.{answerOf}
-use Rattle.sheet_text.specs.Reading.{Sheet, sheet, unhexed, readOf}
+use Rattle.sheet_text.specs.Reading.{Sheet, sheet, readOf}
 use Rattle.sheet_text.proofs.Parts.{Asked, asked, asked-nothing, frame-fits, frame-there}
 use Rattle.sheet.specs.Sheet.{reported, answerTo, sheetOf}
 

@@ -13,7 +13,7 @@ use Rattle.encoder.specs.Outcomes.{Encoded, copyEncodeOutcome}
 use Rattle.bit_flip.specs.Outcome as flip
 use Rattle.min_sum.specs.Confidence.{i8}
 use Rattle.min_sum.specs.Outcomes as soft
-use Rattle.sheet_text.specs.declared.values.Op.the-variants.{Encode, Bf, Ms}
+use Rattle.sheet_values.specs.declared.Op.the-variants.{Encode, Bf, Ms}
 use Rattle.sheet_text.specs.declared.read.Reading.the-variants.{Malformed}
 use Rattle.sheet_text.specs.Reading.{Sheet, malformed, sheet, parse, textNumber}
 use Rattle.sheet_text.specs.Printing.{printed}

@@ -14,8 +14,8 @@ use report::refused;
 use sheet_text::print::Answer;
 use sheet_text::read::Reading;
 use sheet_text::read::read;
-use sheet_text::values::Op;
-use sheet_text::values::hex_bytes;
+use sheet_values::Op;
+use sheet_values::hex_bytes;
 
 // The text is no sheet.
 pub const MALFORMED: u8 = 9;

@@ -11,16 +11,21 @@ use lib.ListN.{length}
 use Rattle.maths.specs.Tests.{pick, both}
 use Rattle.maths.specs.Bytes.{Bytes}
 use Rattle.maths.proofs.Tests.{both-first, both-second}
-use Rattle.sheet_text.specs.declared.values.Op.{Op}
-use Rattle.sheet_text.specs.declared.values.Number.{Number}
-use Rattle.sheet_text.specs.declared.values.Number.the-variants.{Is, NoNumber}
-use Rattle.sheet_text.specs.declared.values.Named.{Named}
-use Rattle.sheet_text.specs.declared.values.Named.the-variants.{Names, NoName}
-use Rattle.sheet_text.specs.Text.{ascii, glyph, decimal, hex, nameOf, line, spell, longest, largest, Spells}
-use Rattle.sheet_text.specs.Reading.{digitOf, numberOf, opOf, hexText, unhex, Sheet, malformed, sheet, withNumber, withOp, fromFrame, fromLimit, fromOp, fromCode, parse, placed, readOf, textNumber}
-use Rattle.sheet_text.proofs.Fields.{lines-nested, Field, field-spelled, field-read, digit-spelled, digit-read, op-spelled, op-read, digit-plain, name-plain}
-use Rattle.sheet_text.proofs.Decimals.{number-spelled, number-read, decimal-plain}
-use Rattle.sheet_text.proofs.Hex.{hex-spelled, hex-read, unhex-hex, hex-plain}
+use Rattle.sheet_values.specs.declared.Op.{Op}
+use Rattle.sheet_values.specs.declared.Number.{Number}
+use Rattle.sheet_values.specs.declared.Number.the-variants.{Is, NoNumber}
+use Rattle.sheet_values.specs.declared.Named.{Named}
+use Rattle.sheet_values.specs.declared.Named.the-variants.{Names, NoName}
+use Rattle.sheet_values.specs.Spelling.{ascii, glyph, decimal, hex, nameOf, largest}
+use Rattle.sheet_values.specs.Values.{digitOf, numberOf, opOf, hexText, unhex}
+use Rattle.sheet_values.proofs.Glyphs.{digit-spelled, digit-read}
+use Rattle.sheet_values.proofs.Words.{op-spelled, op-read}
+use Rattle.sheet_values.proofs.Decimals.{number-spelled, number-read}
+use Rattle.sheet_values.proofs.Hex.{hex-spelled, hex-read, unhex-hex}
+use Rattle.sheet_text.specs.Text.{line, spell, longest, Spells}
+use Rattle.sheet_text.specs.Reading.{Sheet, malformed, sheet, withNumber, withOp, fromFrame, fromLimit, fromOp, fromCode, parse, placed, readOf, textNumber}
+use Rattle.sheet_text.proofs.Plain.{digit-plain, name-plain, decimal-plain, hex-plain}
+use Rattle.sheet_text.proofs.Fields.{lines-nested, Field, field-spelled, field-read}
 
 module _ (code : ℕ) (op : Op) (limit : ℕ) (frame : List ℕ) where
   nested : spell code op limit frame

@@ -7,11 +7,13 @@ use native.Mathlib.Omega.{arith}
 use borrow.Author.Tests.{lt-leb}
 use lib.ListN.{length, replicate}
 use Rattle.maths.specs.Tests.{all}
-use Rattle.sheet_text.specs.declared.values.Op.the-variants.{Encode, Bf, Ms}
-use Rattle.sheet_text.specs.Text.{ascii, newline, glyph, decimalIn, decimal, hex, line, longest}
-use Rattle.sheet_text.specs.Reading.{valueOf, numberFrom, numberOf, begins, hexText, unhex, lineEnd, malformed, sheet, field, fromFrame, fromLimit, fromOp, fromCode, parse, unread}
+use Rattle.sheet_values.specs.declared.Op.the-variants.{Encode, Bf, Ms}
+use Rattle.sheet_values.specs.Spelling.{ascii, glyph, decimalIn, decimal, hex}
+use Rattle.sheet_values.specs.Values.{valueOf, numberFrom, numberOf, begins, hexText, unhex}
+use Rattle.sheet_values.proofs.Decimals.{decimal-digit}
+use Rattle.sheet_text.specs.Text.{newline, line, longest}
+use Rattle.sheet_text.specs.Reading.{lineEnd, malformed, sheet, field, fromFrame, fromLimit, fromOp, fromCode, parse, unread}
 use Rattle.sheet_text.specs.Printing.{printed}
-use Rattle.sheet_text.proofs.Decimals.{decimal-digit}
 use Rattle.sheet_text.proofs.Fields.{lines-nested}
 
 -- the document's sheet and its answer

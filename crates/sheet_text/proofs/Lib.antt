@@ -1,9 +1,7 @@
-pub mod Turns
+pub mod Ends
 pub mod Lines
-pub mod Glyphs
-pub mod Decimals
-pub mod Hex
 pub mod Writes
+pub mod Plain
 pub mod Fields
 pub mod BothWays
 pub mod Parts

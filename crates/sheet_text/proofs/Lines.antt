@@ -2,34 +2,32 @@
 use mathlib.Core.Bool.{Bool, true, false}
 use mathlib.Core.List.{List, [], _∷_}
 use mathlib.Core.Path.{_≡_, refl, sym, ap, subst, _∙_}
-use Prim.Native.Nat.{ℕ, suc, _+_, _-_, _^_, _≤_, _<_}
+use Prim.Native.Nat.{ℕ, suc, _+_, _-_, _*_, _^_, _≤_, _<_}
 use native.Mathlib.Nat.{add-sub-cancel-left}
 use native.Mathlib.Omega.{arith}
 use borrow.Author.Needs.{needs}
 use borrow.Author.Tests.{not-true, not-false, ltb-true, ltb-false, lt-ltb, le-ltb, le-leb, lt-leb, eq-eqb, ne-eqb}
 use lib.Dec.{ltb, eqb}
-use lib.ListN.{length, take, drop, length-append, length-drop}
-use lib.Seq.{drop-drop, take-all}
+use lib.ListN.{length, take, drop, length-drop}
+use lib.Seq.{drop-drop, take-all, length-take-le}
 use mir.Syntax.{w64}
 use mir.Val.{Fits}
 use Rattle.maths.specs.Tests.{pick, both}
 use Rattle.codes.specs.Answers.{test, firstOf}
-use Rattle.sheet_text.specs.declared.values.Op.{Op}
-use Rattle.sheet_text.specs.declared.values.Number.{Number}
-use Rattle.sheet_text.specs.declared.values.Number.the-variants.{Is, NoNumber}
-use Rattle.sheet_text.specs.declared.values.Named.{Named}
-use Rattle.sheet_text.specs.declared.values.Named.the-variants.{Names, NoName}
+use Rattle.sheet_values.specs.declared.Op.{Op}
+use Rattle.sheet_values.specs.declared.Number.{Number}
+use Rattle.sheet_values.specs.declared.Number.the-variants.{Is, NoNumber}
+use Rattle.sheet_values.specs.declared.Named.{Named}
+use Rattle.sheet_values.specs.declared.Named.the-variants.{Names, NoName}
+use Rattle.sheet_values.specs.Values.{begins, hexText, unhex}
+use Rattle.sheet_values.proofs.Words.{begins-low}
+use Rattle.sheet_values.proofs.Hex.{hex-even, unhex-length}
 use Rattle.sheet_text.specs.declared.read.Line.{Line}
 use Rattle.sheet_text.specs.declared.read.Line.the-variants.{Missing, Between}
 use Rattle.sheet_text.specs.declared.read.Reading.{Reading}
 use Rattle.sheet_text.specs.declared.read.Reading.the-variants.{Malformed, Asks}
 use Rattle.sheet_text.specs.Text.{newline, longest}
-use Rattle.sheet_text.specs.Reading.{begins, hexText, unhex, lineEnd, Sheet, malformed, sheet, field, withNumber, withOp, fromCode, parse, lineAt, placed, readOf, textNumber, unread, readAnswer}
-use Rattle.sheet_text.proofs.Fields.{begins-word}
-use Rattle.sheet_text.proofs.Hex.{digits-length}
-
-begins-low : (w s : List ℕ) → begins w s ≡ true → length w ≤ length s
-begins-low w s e = omega (arith, ap length (begins-word w s e), length-append w (drop (length w) s))
+use Rattle.sheet_text.specs.Reading.{lineEnd, Sheet, malformed, sheet, field, withNumber, withOp, fromCode, parse, lineAt, placed, readOf, textNumber, unread, readAnswer}
 
 lineEnd-low : (s : List ℕ) → lineEnd s ≤ length s
 unfolding lineEnd
@@ -150,6 +148,14 @@ op-none n x y more e f = rw (sym f ∙ e)
 
 pub op-read : (n : ℕ) (k : Op) (x y : Named) (more : Op → Sheet) (z : Reading) → y ≡ Names k → y ≡ x → z ≡ placed n (more k) → z ≡ placed n (withOp x more)
 op-read n k x y more z e f g = rw (sym f ∙ e) g
+
+-- the digits that stand between two places
+digits-length : (s : List ℕ) (from to : ℕ) → from ≤ to → to < length s → hexText (take (to - from) (drop from s)) ≡ true
+    → 2 * length (unhex (take (to - from) (drop from s))) ≡ to - from
+digits-length s from to g h e =
+    let v = take (to - from) (drop from s) in
+    let n : length v ≡ to - from = length-take-le (to - from) (drop from s) (omega (arith, length-drop from s)) in
+    omega (arith, unhex-length v (hex-even v e))
 
 -- the frame's digits are none, are not the text's last, or are read
 module _ (v : List ℕ) (b : Bool) (e : b ≡ hexText v) where

@@ -8,14 +8,16 @@ use lib.ListN.{length, take, drop, replicate, length-append, length-replicate}
 use lib.Seq.{take-at, drop-at}
 use Rattle.maths.proofs.Stores.{sets-replicate}
 use Rattle.maths.specs.Bytes.{Bytes}
-use Rattle.sheet_text.specs.declared.values.Op.{Op}
-use Rattle.sheet_text.specs.declared.values.Op.the-variants.{Encode, Bf, Ms}
+use Rattle.sheet_values.specs.declared.Op.{Op}
+use Rattle.sheet_values.specs.declared.Op.the-variants.{Encode, Bf, Ms}
+use Rattle.sheet_values.specs.Spelling.{ascii, glyph, decimal, hex, nameOf}
+use Rattle.sheet_values.specs.Values.{unhexed}
+use Rattle.sheet_values.proofs.Decimals.{decimal-long}
+use Rattle.sheet_values.proofs.Hex.{hex-length, hex-read, unhex-hex}
 use Rattle.sheet_text.specs.declared.read.Request.{Request}
 use Rattle.sheet_text.specs.declared.read.Reading.the-variants.{Malformed, Asks}
-use Rattle.sheet_text.specs.Text.{ascii, newline, glyph, decimal, hex, nameOf, line, spell, Spells}
-use Rattle.sheet_text.specs.Reading.{unhexed, Sheet, malformed, sheet, parse, placed, readOf}
-use Rattle.sheet_text.proofs.Decimals.{decimal-long}
-use Rattle.sheet_text.proofs.Hex.{hex-length, hex-read, unhex-hex}
+use Rattle.sheet_text.specs.Text.{newline, line, spell, Spells}
+use Rattle.sheet_text.specs.Reading.{Sheet, malformed, sheet, parse, placed, readOf}
 use Rattle.sheet_text.proofs.Writes.{line-length}
 use Rattle.sheet_text.proofs.BothWays.{accepted}
 

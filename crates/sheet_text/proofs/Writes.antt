@@ -1,24 +1,22 @@
 -- Texts that are written from a place on, and the loops that write them. Assumes nothing.
-use mathlib.Core.Bool.{true}
 use mathlib.Core.List.{List, [], _∷_, _++_}
 use mathlib.Core.Path.{_≡_, refl, sym, _∙_}
 use Prim.Native.Nat.{ℕ, suc, _+_, _-_, _*_, _/_, _%_, _≤_, _<_}
 use native.Mathlib.Nat.{zero-add, add-zero}
-use native.Mathlib.Numerals.{add-one}
 use native.Mathlib.Omega.{arith}
 use borrow.Author.Needs.{needs}
-use lib.ListN.{length, getD, set, take, drop, replicate, length-append, length-set, drop-of-length-le}
+use lib.ListN.{length, getD, set, take, drop, replicate, length-append, drop-of-length-le}
 use lib.Seq.{sets, length-take-le}
-use mir.Syntax.{w8, w64}
+use mir.Syntax.{w64}
 use mir.Val.{Fits}
 use Rattle.maths.proofs.Stores.{sets-append, sets-replicate}
+use Rattle.sheet_values.specs.Spelling.{glyph, decimal, hex}
+use Rattle.sheet_values.proofs.Turns.{next}
+use Rattle.sheet_values.proofs.Decimals.{decimal-few}
+use Rattle.sheet_values.proofs.Hex.{hex-length}
 use Rattle.sheet_text.specs.declared.print.Answer.{Answer}
-use Rattle.sheet_text.specs.Text.{newline, glyph, decimal, hex, line}
-use Rattle.sheet_text.specs.Reading.{valueOf, hexText, unhex}
+use Rattle.sheet_text.specs.Text.{newline, line}
 use Rattle.sheet_text.specs.Printing.{room, answerOf, Written}
-use Rattle.sheet_text.proofs.Turns.{next}
-use Rattle.sheet_text.proofs.Hex.{hex-even, value-low, hex-length}
-use Rattle.sheet_text.proofs.Decimals.{decimal-few}
 
 -- ---- one text after another
 pub written-then : {old mid new a b : List ℕ} {at t u : ℕ} → Written old at a mid t → Written mid t b new u → Written old at (a ++ b) new u
@@ -69,57 +67,7 @@ module _ (l₀ s : List ℕ) (at : ℕ) where
     unfolding hex
     hex-ends h = record { is = rw (drop-of-length-le s h) at (r .rest); count = rw (hex-length s) }
 
--- the bytes that pairs of hex digits say, so far j of them
-pub record Unhexing (v l₀ : List ℕ) (j : ℕ) (l : List ℕ) : Type 0 where
-  pub low : j ≤ length v / 2
-  pub long : length l ≡ length l₀
-  pub rest : sets l j (unhex (drop (2 * j) v)) ≡ sets l₀ 0 (unhex v)
-
-pair : (s : List ℕ) (j : ℕ) → 2 * j + 1 < length s → drop (2 * j) s ≡ getD s (2 * j) 0 ∷ getD s (2 * j + 1) 0 ∷ drop (2 * (j + 1)) s
-pair s j h =
-    let e : 2 * j + 1 + 1 ≡ 2 * (j + 1) = omega arith in
-    next s (2 * j) (omega arith) ∙ rw (next s (2 * j + 1) h, e)
-
-module _ (v l₀ : List ℕ) where
-  pub unhex-begins : Unhexing v l₀ 0 l₀
-  unhex-begins = record { low = omega arith; long = refl; rest = refl }
-
-  module _ (j : ℕ) (l : List ℕ) (r : Unhexing v l₀ j l) where
-    pub unhex-more : (a b : ℕ) → a ≡ valueOf (getD v (2 * j) 0) → b ≡ valueOf (getD v (2 * j + 1) 0) → j < length v / 2
-        → Unhexing v l₀ (j + 1) (set l j (16 * a + b))
-    unfolding unhex
-    unhex-more a b e f h =
-        record {
-          low = omega arith;
-          long = length-set l j (16 * a + b) ∙ r .long;
-          rest = rw (e, f, add-one j) (rw (pair v j (omega arith), add-one j) at (r .rest));
-        }
-
-    pub unhex-inside : j < length v / 2 → length v ≤ 2 * length l₀ → j < length l
-    unhex-inside h g = omega (arith, r .long)
-
-    pub unhex-long : length l ≡ length l₀
-    unhex-long = r .long
-
-    pub unhex-ends : length v / 2 ≤ j → hexText v ≡ true → l ≡ sets l₀ 0 (unhex v)
-    unfolding unhex
-    unhex-ends h t =
-        let g : length v ≤ 2 * j = omega (arith, hex-even v t) in
-        rw (drop-of-length-le v g) at (r .rest)
-
--- two digits are a byte
-module _ (v : List ℕ) (j a b : ℕ) (e : a ≡ valueOf (getD v (2 * j) 0)) (f : b ≡ valueOf (getD v (2 * j + 1) 0)) (t : hexText v ≡ true) (h : j < length v / 2) where
-  pub pair-byte : Fits w8 (16 * a + b)
-  pair-byte = record { fits = omega (arith, value-low v (2 * j) t (omega arith), value-low v (2 * j + 1) t (omega arith)) }
-
-  pub pair-sum : Fits w64 (16 * a + b)
-  pair-sum = record { fits = omega (arith, pair-byte .fits) }
-
-  pub pair-product : Fits w64 (16 * a)
-  pair-product = record { fits = omega (arith, pair-byte .fits) }
-
-pub ruleset writes =
-    (word-begins, word-more, word-ends, hex-begins, hex-more, hex-ends, unhex-begins, unhex-more, unhex-inside, unhex-long, unhex-ends, pair-byte, pair-sum, pair-product, needs)
+pub ruleset writes = (word-begins, word-more, word-ends, hex-begins, hex-more, hex-ends, needs)
 
 -- ---- a line of a number: there is room for its key, for its digits and for its newline
 pub line-length : (key : List ℕ) (n : ℕ) → length (line key (decimal n)) ≡ length key + length (decimal n) + 1

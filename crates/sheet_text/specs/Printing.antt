@@ -6,8 +6,9 @@ use Prim.Native.Nat.{ℕ, _+_, _-_}
 use lib.ListN.{length, replicate}
 use lib.Seq.{sets}
 use Rattle.report.specs.Report.{flag}
+use Rattle.sheet_values.specs.Spelling.{ascii, decimal, hex}
 use Rattle.sheet_text.specs.declared.print.Answer.{Answer}
-use Rattle.sheet_text.specs.Text.{ascii, decimal, hex, line}
+use Rattle.sheet_text.specs.Text.{line}
 
 -- answer, success, iters, output: "each line ends with one newline"
 abbrev pub head : ℕ → Bool → ℕ → List ℕ

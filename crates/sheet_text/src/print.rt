@@ -2,7 +2,8 @@
 ghost use mathlib.Core.Path.{_≡_};
 ghost use Prim.Native.Nat.{_+_, _*_, _<_, _≤_};
 ghost use lib.ListN.{length, take};
-ghost use Rattle.sheet_text.specs.Text.{glyph, decimal, hex, line};
+ghost use Rattle.sheet_values.specs.Spelling.{glyph, decimal, hex};
+ghost use Rattle.sheet_text.specs.Text.{line};
 ghost use Rattle.sheet_text.specs.Printing.{head, printed, maxOutput, room, answerOf, Written};
 
 // The most output bytes that are printed: no output of the library is longer.

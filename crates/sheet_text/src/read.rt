@@ -3,14 +3,14 @@ ghost use mathlib.Core.Path.{_≡_};
 ghost use Prim.Native.Nat.{_≤_};
 ghost use lib.ListN.{length, drop};
 ghost use Rattle.sheet_text.specs.Reading.{lineEnd, lineAt, placed, fromCode, fromOp, fromLimit, fromFrame, readOf, textNumber, readAnswer};
-use crate::values::Named;
-use crate::values::Number;
-use crate::values::Op;
-use crate::values::digit_of;
-use crate::values::is_hex;
-use crate::values::number_of;
-use crate::values::op_of;
-use crate::values::starts_with;
+use sheet_values::Named;
+use sheet_values::Number;
+use sheet_values::Op;
+use sheet_values::digit_of;
+use sheet_values::is_hex;
+use sheet_values::number_of;
+use sheet_values::op_of;
+use sheet_values::starts_with;
 
 // A sheet has at most so many bytes.
 const LONGEST: usize = 8192;

@@ -3,7 +3,7 @@ use Prim.Native.Nat.{ℕ, _<_}
 use native.Mathlib.Omega.{arith}
 use borrow.Fn.Kinds.{In}
 use borrow.Fn.PlainCycle.{Measures, is, falls, and}
-use Rattle.sheet_text.proofs.Decimals.{decimal-digit, decimal-more, decimal-long, decimal-longer}
+use Rattle.sheet_values.proofs.Decimals.{decimal-digit, decimal-more, decimal-long, decimal-longer}
 use Rattle.sheet_text.proofs.Writes.{written-byte, written-then}
 use Rattle.sheet_text.proofs.print.put_decimal.Reads as put-decimal
 use Rattle.sheet_text.proofs.print.put_decimal.Kinds as put-decimal-kinds

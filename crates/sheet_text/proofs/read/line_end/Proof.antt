@@ -1,6 +1,6 @@
 use Prim.Native.Nat.{_-_}
 use lib.ListN.{length}
-use Rattle.sheet_text.proofs.Turns.{Ending, turns}
+use Rattle.sheet_text.proofs.Ends.{Ending, ends}
 use Rattle.sheet_text.proofs.read.line_end.Statement.{statement}
 use Rattle.sheet_text.proofs.read.line_end.Tie as tie
 
@@ -17,10 +17,10 @@ line-end-spec =
     (tie.spec
     Inv-loop
     μ-loop
-    (λ c. search turns)
-    (λ c. search turns)
-    (λ c. search turns)
-    (λ c. search turns)
-    (λ c. search turns)
-    (λ c. search turns)
-    (λ c. search turns))
+    (λ c. search ends)
+    (λ c. search ends)
+    (λ c. search ends)
+    (λ c. search ends)
+    (λ c. search ends)
+    (λ c. search ends)
+    (λ c. search ends))
