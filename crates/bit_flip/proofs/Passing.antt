@@ -15,8 +15,9 @@ use Rattle.codes.specs.Equations.{wordOf}
 use Rattle.runs.specs.Runs.{laid}
 use Rattle.runs.specs.Meets.{holds, syndromeOf}
 use Rattle.runs.proofs.Parity.{none-broken, laid-ranged}
+use Rattle.scores.specs.Scores.{give, flipByte}
 use Rattle.bit_flip.specs.Flip.{flipped, pass, passes}
-use Rattle.bit_flip.specs.Steps.{give, flipByte, FewEdges, Bits}
+use Rattle.bit_flip.specs.Steps.{FewEdges, Bits}
 use Rattle.bit_flip.proofs.Scores.{flipped-by, flipped-kept, gone}
 
 -- ---- over the edges of those runs that lie within m checks and n bits

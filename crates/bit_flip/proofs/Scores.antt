@@ -13,25 +13,14 @@ use Rattle.maths.specs.Sums.{sumL}
 use Rattle.maths.specs.Budget.{stop, go}
 use Rattle.maths.proofs.Tests.{both-left, both-right, pick-both}
 use Rattle.maths.proofs.Lists.{span-length, span-ext, map-span}
-use Rattle.maths.proofs.Slices.{span-get, span-is}
+use Rattle.maths.proofs.Slices.{span-get}
 use Rattle.codes.specs.Edges.{Edge, inRange}
-use Rattle.codes.specs.Equations.{checkOf, bitOf, checksOf, par, wordOf}
+use Rattle.codes.specs.Equations.{checksOf, par, wordOf}
 use Rattle.runs.specs.Meets.{holds, syndromeOf}
-use Rattle.runs.proofs.Tally.{into, put-length, put-at}
+use Rattle.scores.specs.Scores.{give, flipByte}
+use Rattle.scores.proofs.Scores.{gave, flip-one}
 use Rattle.bit_flip.specs.Flip.{broken, score, topScore, flipped, pass}
-use Rattle.bit_flip.specs.Steps.{twice, give, flipByte, FewEdges, Bits}
-
--- ---- what a bit is given
-into-twice : (g : ℕ → ℕ) (vs : List ℕ) (x : ℕ) → x < 256 → into twice g vs x ≡ (x + 2 * sumL vs g) % 256
-unfolding into
-into-twice g [] x k = omega arith
-into-twice g (v ∷ vs) x k = into-twice g vs ((x + 2 * g v) % 256) (omega arith) ∙ omega arith
-
-pub gave : (s : ℕ → ℕ) (es : List Edge) (w : List ℕ) → ((v : ℕ) → wordOf w v < 256)
-    → fold (give s) es w ≡ span (λ v. (wordOf w v + 2 * sumL (checksOf es v) s) % 256) 0 (length w)
-gave s es w low =
-    span-is 0 _ _ (length w) (put-length bitOf checkOf twice s es w)
-    (λ v k. put-at bitOf checkOf twice s es w v k ∙ into-twice s (checksOf es v) (wordOf w v) (low v))
+use Rattle.bit_flip.specs.Steps.{FewEdges, Bits}
 
 -- the sum over the checks of a bit, where only checks in range have edges
 pub sum-ranged : (m n : ℕ) (g g′ : ℕ → ℕ) → ((a : ℕ) → a < m → g a ≡ g′ a) → (es : List Edge) → T (all (inRange m n) es) → (v : ℕ)
@@ -67,13 +56,6 @@ largest-half b t h s (suc n) = halves (b s) (t s) _ _ (h s) (largest-half b t h 
   where
     halves : (x y p q : ℕ) → x < 2 → p / 2 ≡ q → max (x + 2 * y) p / 2 ≡ max y q
     halves x y p q k e = omega arith
-
-flip-one : (top x y : ℕ) → x < 2 → flipByte top (x + 2 * y) ≡ pick (eqb y top) (1 - x) x
-unfolding flipByte
-flip-one top x y h =
-    let p : (x + 2 * y) / 2 ≡ y = omega arith in
-    let q : (x + 2 * y) % 2 ≡ x = omega arith in
-    rw (p, q)
 
 module _ (es : List Edge) (m n : ℕ) (w : List ℕ) (ranged : T (all (inRange m n) es)) (bits : Bits w) (few : FewEdges es) where
   -- each bit's byte is the bit and twice its score

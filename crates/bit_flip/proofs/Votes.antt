@@ -2,14 +2,14 @@
 use mathlib.Core.Bool.{Bool, true, false}
 use mathlib.Core.List.{List, [], _∷_, map}
 use mathlib.Core.Path.{_≡_, refl, sym, ap, _∙_}
-use Prim.Native.Nat.{ℕ, zero, suc, _+_, _-_, _*_, _/_, _%_, _≤_, _<_, min}
-use native.Mathlib.Decide.{ℕ-discrete, decLt}
+use Prim.Native.Nat.{ℕ, _+_, _-_, _*_, _/_, _%_, _≤_, _<_, min}
+use native.Mathlib.Decide.{decLt}
 use native.Mathlib.Omega.{arith}
-use borrow.Author.Tests.{ne-eqb, lt-ltb, le-ltb, le-leb, lt-leb}
+use borrow.Author.Tests.{lt-ltb, le-ltb, le-leb, lt-leb}
 use borrow.Author.Needs.{needs}
 use lib.Dec.{T, eqb, ltb, leb}
 use lib.ListN.{length, set, List·getD-eq-default}
-use Rattle.maths.specs.Tests.{pick, both, all}
+use Rattle.maths.specs.Tests.{pick, all}
 use Rattle.maths.specs.Lists.{span, fold}
 use Rattle.maths.specs.Sums.{sumL}
 use Rattle.maths.proofs.Tests.{pick-both, both-true, both-false}
@@ -20,62 +20,16 @@ use Rattle.codes.specs.Edges.{Edge, inRange}
 use Rattle.runs.specs.Runs.{laid}
 use Rattle.codes.specs.Equations.{checkOf, bitOf, bitsOf, checksOf, par, wordOf}
 use Rattle.runs.specs.Meets.{syndromeOf}
-use Rattle.runs.proofs.Tally.{into, put-length, put-at}
+use Rattle.runs.proofs.Tally.{put-length, put-at}
 use Rattle.runs.proofs.Parity.{laid-ranged}
+use Rattle.scores.specs.Scores.{give}
+use Rattle.scores.specs.Votes.{addErased, countErased, voteByte, castVotes, settleByte}
+use Rattle.scores.proofs.Scores.{gave}
+use Rattle.scores.proofs.Casting.{into-erased, vote-one, settle-one}
 use Rattle.bit_flip.specs.Erasures.{erasedEdges, others, ayes, nays, voted, filled, erasurePasses, fromOn}
-use Rattle.bit_flip.specs.Steps.{addErased, countErased, give, voteByte, castVotes, settleByte, setFrom, FewEdges, Bits, Marked}
-use Rattle.bit_flip.proofs.Scores.{gave, sum-ranged}
+use Rattle.bit_flip.specs.Steps.{setFrom, FewEdges, Bits, Marked}
+use Rattle.bit_flip.proofs.Scores.{sum-ranged}
 use Rattle.bit_flip.proofs.Passing.{few-moved}
-
--- ---- the byte of a check: the parity of its known bits, and twice its erased bits, at most 4
-into-erased : (g : ℕ → ℕ) → ((v : ℕ) → g v < 4) → (vs : List ℕ) (x : ℕ) → x ≤ 4 → into addErased g vs x ≡ min 4 (x + 2 * sumL vs (λ v. g v / 2))
-unfolding into
-into-erased g low [] x k = omega arith
-into-erased g low (v ∷ vs) x k =
-    let h = low v in
-    into-erased g low vs (min 4 ((x + g v / 2 * 2) % 256)) (omega arith) ∙ omega arith
-
--- what such a check gives
-vote-one : (h o : ℕ) → o < 2 → voteByte (min 4 (o + 2 * h)) ≡ 2 * pick (eqb h 1) o 0 + 254 * pick (eqb h 1) (1 - o) 0
-unfolding voteByte
-vote-one zero zero k = refl
-vote-one zero (suc zero) k = refl
-vote-one zero (suc (suc o)) k = absurd (omega arith)
-vote-one (suc zero) zero k = refl
-vote-one (suc zero) (suc zero) k = refl
-vote-one (suc zero) (suc (suc o)) k = absurd (omega arith)
-vote-one (suc (suc h)) o k =
-    let e : min 4 (o + 2 * suc (suc h)) ≡ 4 = omega arith in
-    rw (e, ne-eqb (suc (suc h)) 1 (λ z. omega arith))
-
--- a known bit stays, an erased bit goes by its votes
-settle-one : (x : Bool) (y a n : ℕ) → y < 2 → a + n ≤ 31 → settleByte ((pick x 2 y + 2 * (2 * a + 254 * n)) % 256) ≡ pick x (pick (ltb n a) 1 0) y
-unfolding settleByte
-settle-one false y a n k l =
-    let q : (y + 2 * (2 * a + 254 * n)) % 256 % 4 < 2 = omega arith in
-    let r : (y + 2 * (2 * a + 254 * n)) % 256 % 2 ≡ y = omega arith in
-    rw (lt-ltb _ 2 q, r)
-settle-one true y a n k l = go (decLt n a)
-  where
-    z : ℕ
-    z = (2 + 2 * (2 * a + 254 * n)) % 256
-
-    four : 2 ≤ z % 4
-    four = omega arith
-
-    go : Dec (n < a) → pick (ltb (z % 4) 2) (z % 2) (pick (both (ltb 0 (z / 4)) (ltb (z / 4) 32)) 1 0) ≡ pick (ltb n a) 1 0
-    go (yes h) =
-        let p : 0 < z / 4 = omega arith in
-        let q : z / 4 < 32 = omega arith in
-        rw (le-ltb (z % 4) 2 four, lt-ltb n a h, lt-ltb 0 (z / 4) p, lt-ltb (z / 4) 32 q)
-    go (no h) = rw (le-ltb (z % 4) 2 four, le-ltb n a (omega arith)) (side (ℕ-discrete (z / 4) 0))
-      where
-        side : Dec (z / 4 ≡ 0) → _≡_ {A = ℕ} (pick (both (ltb 0 (z / 4)) (ltb (z / 4) 32)) 1 0) 0
-        side (yes e) = rw e
-        side (no e) =
-            let p : 0 < z / 4 = omega arith in
-            let q : 32 ≤ z / 4 = omega arith in
-            rw (lt-ltb 0 (z / 4) p, le-ltb (z / 4) 32 q)
 
 -- ---- sums
 sum-same : (g g′ : ℕ → ℕ) → ((v : ℕ) → g v ≡ g′ v) → (vs : List ℕ) → sumL vs g ≡ sumL vs g′
@@ -176,11 +130,6 @@ module _ (erased : ℕ → Bool) (es : List Edge) (m n : ℕ) (w b : List ℕ) (
   voted-by e₅ e₄ e = e₅ ∙ rw e₄ (settled _ (e ∙ ap (map voteByte) (counted refl refl)))
 
 -- ---- over the edges of those runs that lie within m checks and n bits
-pub cast-by : (ns b s₁ s₂ s₃ : List ℕ) (k m n : ℕ) → s₁ ≡ syndromeOf (laid m n ns) m (wordOf b) → s₂ ≡ fold (countErased (wordOf b)) (laid k n ns) s₁ → s₃ ≡ map voteByte s₂
-    → k ≡ m → s₃ ≡ castVotes (laid m n ns) m b
-unfolding castVotes
-cast-by ns b s₁ s₂ s₃ k m n e₁ e₂ e₃ l = e₃ ∙ rw (e₂, e₁, l)
-
 pub vote-by : (erased : ℕ → Bool) (ns w b s b₁ b₂ : List ℕ) (k m n : ℕ) → b₂ ≡ map settleByte b₁ → b₁ ≡ fold (give (wordOf s)) (laid k n ns) b
     → s ≡ castVotes (laid m n ns) m b → k ≡ m → FewEdges (laid m n ns) → Marked erased w b → b₂ ≡ voted erased (laid m n ns) w
 vote-by erased ns w b s b₁ b₂ k m n e₅ e₄ e l few mark = voted-by erased (laid m n ns) m n w b (laid-ranged m n ns) few mark e₅ (rw l at e₄) e
@@ -253,4 +202,4 @@ erased-by ns w b w′ m n limit v e l bits h k =
     one-pass (fromOn n (length w)) (laid m (length w) ns) (length w - n) limit w (omega arith) (omega arith)
     (rw l at (v (fromOn n (length w)) w (rw e (marked n w bits))))
 
-pub ruleset erasing = (cast-by, vote-by, all-sent, no-limit, erased-by, few-moved, needs)
+pub ruleset erasing = (vote-by, all-sent, no-limit, erased-by, few-moved, needs)

@@ -1,48 +1,16 @@
--- What the functions inside do to bytes. A check's byte is 1 where it is broken; a bit's byte is the bit and twice what its checks give. Assumes nothing.
+-- What the functions inside ask of what they are lent, and a list set from a place on. Assumes nothing.
 use mathlib.Core.Bool.{Bool}
-use mathlib.Core.List.{List, map}
+use mathlib.Core.List.{List}
 use mathlib.Core.Path.{_≡_}
-use Prim.Native.Nat.{ℕ, _+_, _-_, _*_, _/_, _%_, _≤_, _<_, min}
-use lib.Dec.{eqb, ltb, leb}
+use Prim.Native.Nat.{ℕ, _/_, _≤_, _<_}
+use lib.Dec.{leb}
 use lib.ListN.{length}
-use Rattle.maths.specs.Tests.{pick, both}
-use Rattle.maths.specs.Lists.{span, fold}
+use Rattle.maths.specs.Tests.{pick}
+use Rattle.maths.specs.Lists.{span}
 use Rattle.codes.specs.declared.CodeParams.{CodeParams}
 use Rattle.codes.specs.Codes.{Known, rowOf}
 use Rattle.codes.specs.Edges.{Edge}
-use Rattle.codes.specs.Equations.{checkOf, bitOf, checksOf, wordOf}
-use Rattle.runs.specs.Meets.{syndromeOf}
-use Rattle.runs.specs.Steps.{put}
-
--- twice what each check has, to the bits of its edges
-abbrev pub twice : ℕ → ℕ → ℕ
-twice x y = (x + 2 * y) % 256
-
-abbrev pub give : (ℕ → ℕ) → Edge → List ℕ → List ℕ
-give s = put bitOf checkOf twice s
-
--- a byte that holds a bit and twice its score, flipped if the score is the top
-unfoldable pub flipByte : ℕ → ℕ → ℕ
-flipByte top x = pick (eqb (x / 2) top) (1 - x % 2) (x % 2)
-
--- the erased bits of a check, whose byte is its parity and twice their number, at most 4
-abbrev pub addErased : ℕ → ℕ → ℕ
-addErased x y = min 4 ((x + y / 2 * 2) % 256)
-
-abbrev pub countErased : (ℕ → ℕ) → Edge → List ℕ → List ℕ
-countErased w = put checkOf bitOf addErased w
-
--- what a check gives: 2 for odd parity, -2 for even, where it has one erased bit
-unfoldable pub voteByte : ℕ → ℕ
-voteByte x = pick (eqb x 3) 2 (pick (eqb x 2) 254 0)
-
--- the bytes of m checks after a parity, a count of erased bits and a vote
-unfoldable pub castVotes : List Edge → ℕ → List ℕ → List ℕ
-castVotes es m b = map voteByte (fold (countErased (wordOf b)) es (syndromeOf es m (wordOf b)))
-
--- a bit as it was, or an erased bit (2) by four times the votes it has
-unfoldable pub settleByte : ℕ → ℕ
-settleByte x = pick (ltb (x % 4) 2) (x % 2) (pick (both (ltb 0 (x / 4)) (ltb (x / 4) 32)) 1 0)
+use Rattle.codes.specs.Equations.{checksOf, wordOf}
 
 -- the list w, every element from n on replaced by x
 unfoldable pub setFrom : ℕ → ℕ → List ℕ → List ℕ

@@ -1,9 +1,9 @@
 use Prim.Native.Nat.{_/_, _%_}
 use native.Mathlib.Omega.{arith}
 use borrow.Author.Tests.{lt-ltb, le-ltb}
-use Rattle.bit_flip.specs.Steps.{settleByte}
-use Rattle.bit_flip.proofs.erasures.settle_byte.Statement.{statement}
-use Rattle.bit_flip.proofs.erasures.settle_byte.Tie as tie
+use Rattle.scores.specs.Votes.{settleByte}
+use Rattle.scores.proofs.votes.settle_byte.Statement.{statement}
+use Rattle.scores.proofs.votes.settle_byte.Tie as tie
 
 pub settle-byte-spec : {M : Type 1} → statement M
 unfolding settleByte

@@ -1,9 +1,9 @@
 -- The loop's invariant: the first i bytes are replaced, the others are as they were.
 use Prim.Native.Nat.{_-_}
 use Rattle.maths.proofs.Mapping.{Mapped, maps}
-use Rattle.bit_flip.specs.Steps.{flipByte}
-use Rattle.bit_flip.proofs.passes.flip_bytes.Statement.{statement}
-use Rattle.bit_flip.proofs.passes.flip_bytes.Tie as tie
+use Rattle.scores.specs.Scores.{flipByte}
+use Rattle.scores.proofs.flip_bytes.Statement.{statement}
+use Rattle.scores.proofs.flip_bytes.Tie as tie
 
 pub flip-bytes-spec : {M : Type 1} → statement M
 flip-bytes-spec =

@@ -2,10 +2,10 @@
 use Prim.Native.Nat.{_-_}
 use lib.ListN.{length}
 use Rattle.codes.specs.Equations.{wordOf}
-use Rattle.bit_flip.specs.Steps.{give}
+use Rattle.scores.specs.Scores.{give}
 use Rattle.runs.proofs.Loops.{Sweeping, sweeps}
-use Rattle.bit_flip.proofs.passes.give_runs.Statement.{statement}
-use Rattle.bit_flip.proofs.passes.give_runs.Tie as tie
+use Rattle.scores.proofs.give_runs.Statement.{statement}
+use Rattle.scores.proofs.give_runs.Tie as tie
 
 pub give-runs-spec : {M : Type 1} → statement M
 give-runs-spec =

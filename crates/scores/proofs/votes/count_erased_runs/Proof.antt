@@ -2,10 +2,10 @@
 use Prim.Native.Nat.{_-_}
 use lib.ListN.{length}
 use Rattle.codes.specs.Equations.{wordOf}
-use Rattle.bit_flip.specs.Steps.{countErased}
+use Rattle.scores.specs.Votes.{countErased}
 use Rattle.runs.proofs.Loops.{Sweeping, sweeps}
-use Rattle.bit_flip.proofs.erasures.count_erased_runs.Statement.{statement}
-use Rattle.bit_flip.proofs.erasures.count_erased_runs.Tie as tie
+use Rattle.scores.proofs.votes.count_erased_runs.Statement.{statement}
+use Rattle.scores.proofs.votes.count_erased_runs.Tie as tie
 
 pub count-erased-runs-spec : {M : Type 1} → statement M
 count-erased-runs-spec =

@@ -1,7 +1,7 @@
 use borrow.Author.Tests.{eq-eqb, ne-eqb}
-use Rattle.bit_flip.specs.Steps.{voteByte}
-use Rattle.bit_flip.proofs.erasures.vote_byte.Statement.{statement}
-use Rattle.bit_flip.proofs.erasures.vote_byte.Tie as tie
+use Rattle.scores.specs.Votes.{voteByte}
+use Rattle.scores.proofs.votes.vote_byte.Statement.{statement}
+use Rattle.scores.proofs.votes.vote_byte.Tie as tie
 
 pub vote-byte-spec : {M : Type 1} → statement M
 unfolding voteByte

@@ -1,9 +1,9 @@
 -- The loop's invariant: the first i bytes are replaced, the others are as they were.
 use Prim.Native.Nat.{_-_}
 use Rattle.maths.proofs.Mapping.{Mapped, maps}
-use Rattle.bit_flip.specs.Steps.{settleByte}
-use Rattle.bit_flip.proofs.erasures.settle_bytes.Statement.{statement}
-use Rattle.bit_flip.proofs.erasures.settle_bytes.Tie as tie
+use Rattle.scores.specs.Votes.{settleByte}
+use Rattle.scores.proofs.votes.settle_bytes.Statement.{statement}
+use Rattle.scores.proofs.votes.settle_bytes.Tie as tie
 
 pub settle-bytes-spec : {M : Type 1} → statement M
 settle-bytes-spec =

@@ -1,8 +1,8 @@
 use borrow.Author.Tests.{eq-eqb, ne-eqb}
-use Rattle.bit_flip.specs.Steps.{flipByte}
+use Rattle.scores.specs.Scores.{flipByte}
 use borrow.Author.Needs.{needs}
-use Rattle.bit_flip.proofs.passes.flip_byte.Statement.{statement}
-use Rattle.bit_flip.proofs.passes.flip_byte.Tie as tie
+use Rattle.scores.proofs.flip_byte.Statement.{statement}
+use Rattle.scores.proofs.flip_byte.Tie as tie
 
 pub flip-byte-spec : {M : Type 1} → statement M
 unfolding flipByte

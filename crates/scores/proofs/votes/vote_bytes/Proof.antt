@@ -1,9 +1,9 @@
 -- The loop's invariant: the first i bytes are replaced, the others are as they were.
 use Prim.Native.Nat.{_-_}
 use Rattle.maths.proofs.Mapping.{Mapped, maps}
-use Rattle.bit_flip.specs.Steps.{voteByte}
-use Rattle.bit_flip.proofs.erasures.vote_bytes.Statement.{statement}
-use Rattle.bit_flip.proofs.erasures.vote_bytes.Tie as tie
+use Rattle.scores.specs.Votes.{voteByte}
+use Rattle.scores.proofs.votes.vote_bytes.Statement.{statement}
+use Rattle.scores.proofs.votes.vote_bytes.Tie as tie
 
 pub vote-bytes-spec : {M : Type 1} → statement M
 vote-bytes-spec =
