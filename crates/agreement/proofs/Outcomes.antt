@@ -1,95 +1,36 @@
 -- One outcome for each input: any two that the promise of a public function allows coincide. Assumes nothing.
-use mathlib.Core.Bool.{Bool}
 use mathlib.Core.List.{List}
 use mathlib.Core.Path.{_≡_, sym, ap, _∙_}
 use Prim.Native.Nat.{ℕ, _<_}
 use lib.IntN.{ℤ, pos, negsuc}
-use lib.ListN.{length, getD, take, replicate}
-use Rattle.maths.specs.Lists.{largestOf}
-use Rattle.bits.specs.Packed.{unpacked, packed}
-use Rattle.codes.specs.declared.ParamsAnswer.{ParamsAnswer}
-use Rattle.codes.specs.declared.«parity_iter».Begun.{Begun}
+use lib.ListN.{getD}
 use Rattle.codes.specs.declared.«parity_iter».Step.{Step}
 use Rattle.codes.specs.declared.«parity_iter».ParityIter.{ParityIter}
-use Rattle.codes.specs.declared.«parity_iter».Check.{Check}
-use Rattle.codes.specs.declared.«parity_iter».Bit.{Bit}
-use Rattle.runs.specs.declared.Runs.{Runs}
 use Rattle.runs.specs.declared.EdgeRun.{EdgeRun}
-use Rattle.runs.specs.declared.meets.Met.{Met}
-use Rattle.codes.specs.declared.«parity_iter».Place.{Place}
-use Rattle.codes.specs.declared.«parity_iter».Found.{Found}
-use Rattle.codes.specs.declared.«parity_iter».Block.{Block}
-use Rattle.codes.specs.Codes.{paramsOf, prototypeOf, phiOf}
-use Rattle.codes.specs.Blocks.{blockOf, blocks, headOf, nextBlock}
-use Rattle.codes.specs.Walk.{remaining, begunOf, stepOf, after}
-use Rattle.runs.specs.Runs.{Run, run, runs, runsOf, readRuns, within, laid}
-use Rattle.codes.specs.Equations.{wordOf}
-use Rattle.runs.specs.Meets.{syndromeOf, metOf}
+use Rattle.codes.specs.Walk.{remaining, stepOf, after}
+use Rattle.runs.specs.Runs.{Run, run, readRuns}
 use Rattle.report.specs.declared.Report.{Report}
-use Rattle.report.specs.Report.{refusal, ending}
 use Rattle.encoder.specs.Outcomes.{Encoded, encoded, encodeOutcome, copyEncodeOutcome}
 use Rattle.bit_flip.specs.Outcome as flip
 use Rattle.min_sum.specs.Confidence.{i8}
 use Rattle.min_sum.specs.Outcomes.{Outcome, left, decodeOutcome, Written, written, toLlrsOutcome, toHardOutcome}
 use Rattle.labrador_ldpc.specs.Doors.{Row, row, paramsOutcome, Hard, hard, hardDoor, Soft, soft, softDoor}
-use Rattle.sheet_values.specs.Values.{unhexed}
 use Rattle.sheet_text.specs.declared.read.Reading.{Reading}
-use Rattle.sheet_text.specs.declared.print.Answer.{Answer}
 use Rattle.sheet_text.specs.Reading.{readOf, textNumber, readAnswer}
-use Rattle.sheet_text.specs.Printing.{printed, maxOutput, answerOf}
-use Rattle.sheet.specs.Sheet.{sheetOf}
-use Rattle.measure.specs.Sum.{sumOf}
 
--- what two outcomes both equal makes them equal: of a function whose promise is one equation for its answer this is the theorem
+-- what two outcomes both equal makes them equal: this is the theorem of a function that leaves one thing behind, its answer or a buffer, whose promise is an equation for it
 pub one : {A : Type 0} {x y z : A} → x ≡ z → y ≡ z → x ≡ y
 one p q = p ∙ sym q
 
--- ---- bits
-pub unpack-one : (bytes bits : List ℕ) {x y : List ℕ} → x ≡ unpacked bytes bits → y ≡ unpacked bytes bits → x ≡ y
-unpack-one bytes bits = one
-
-pub pack-one : (bits bytes : List ℕ) {x y : List ℕ} → x ≡ packed bits bytes → y ≡ packed bits bytes → x ≡ y
-pack-one bits bytes = one
-
-pub largest-one : (s : List ℕ) {x y : ℕ} → x ≡ largestOf s → y ≡ largestOf s → x ≡ y
-largest-one s = one
-
-pub clear-one : (s : List ℕ) {x y : List ℕ} → x ≡ replicate (length s) 0 → y ≡ replicate (length s) 0 → x ≡ y
-clear-one s = one
-
--- ---- codes
-pub params-one : (code : ℕ) {x y : ParamsAnswer} → x ≡ paramsOf code → y ≡ paramsOf code → x ≡ y
-params-one code = one
-
-pub prototype-of-one : (code : ℕ) {x y : List (List (List ℕ))} → x ≡ prototypeOf code → y ≡ prototypeOf code → x ≡ y
-prototype-of-one code = one
-
-pub phi-of-one : (code : ℕ) {x y : List (List ℕ)} → x ≡ phiOf code → y ≡ phiOf code → x ≡ y
-phi-of-one code = one
-
-pub block-of-one : (byte : ℕ) {x y : Block} → x ≡ blockOf byte → y ≡ blockOf byte → x ≡ y
-block-of-one byte = one
-
-pub first-block-one : (h : List (List (List ℕ))) {x y : Found} → x ≡ headOf (blocks h) → y ≡ headOf (blocks h) → x ≡ y
-first-block-one h = one
-
-pub next-block-one : (h : List (List (List ℕ))) (p : Place) {x y : Found} → x ≡ nextBlock h p → y ≡ nextBlock h p → x ≡ y
-next-block-one h p = one
-
+-- ---- codes and runs
 pub byte-one : (b : ℕ) {x y : ℕ} → (x ≡ b) × (x < 256) → (y ≡ b) × (y < 256) → x ≡ y
 byte-one b p q = one (p .0) (q .0)
 
 pub wide-one : (b : ℕ) {x y : ℕ} → (x ≡ b) × (x < 65536) → (y ≡ b) × (y < 65536) → x ≡ y
 wide-one b p q = one (p .0) (q .0)
 
-pub iter-paritychecks-one : (code : ℕ) {x y : Begun} → x ≡ begunOf code → y ≡ begunOf code → x ≡ y
-iter-paritychecks-one code = one
-
 pub step-one : (walk : ParityIter) {x y : Step} → (x ≡ stepOf walk) × (after x ≡ remaining walk) → (y ≡ stepOf walk) × (after y ≡ remaining walk) → x ≡ y
 step-one walk p q = one (p .0) (q .0)
-
-pub runs-of-one : (code : ℕ) {x y : Runs} → x ≡ runsOf code → y ≡ runsOf code → x ≡ y
-runs-of-one code = one
 
 pub run-at-one : (triples : List ℕ) (i : ℕ) {x y : EdgeRun}
     → run (x .check .0) (x .bit .0) (x .size) ≡ getD (readRuns triples) i (run 0 0 0)
@@ -98,25 +39,6 @@ run-at-one triples i p q = ap edge-run (one p q)
   where
     edge-run : Run → EdgeRun
     edge-run r = record { check = record { 0 = r .check }; bit = record { 0 = r .bit }; size = r .size }
-
-pub lies-within-one : (check : Check) (bit : Bit) (size checks bits : ℕ) {x y : Bool}
-    → x ≡ within checks bits (run (check .0) (bit .0) size) → y ≡ within checks bits (run (check .0) (bit .0) size) → x ≡ y
-lies-within-one check bit size checks bits = one
-
-pub syndrome-one : (triples bits checks : List ℕ) {x y : List ℕ}
-    → x ≡ syndromeOf (laid (length checks) (length bits) triples) (length checks) (wordOf bits)
-    → y ≡ syndromeOf (laid (length checks) (length bits) triples) (length checks) (wordOf bits) → x ≡ y
-syndrome-one triples bits checks = one
-
-pub meets-one : (code : ℕ) (word : List ℕ) {x y : Met} → x ≡ metOf code word → y ≡ metOf code word → x ≡ y
-meets-one code word = one
-
--- ---- report
-pub refused-one : (answer : ℕ) {x y : Report} → x ≡ refusal answer → y ≡ refusal answer → x ≡ y
-refused-one answer = one
-
-pub finished-one : (success : Bool) (iters : ℕ) {x y : Report} → x ≡ ending success iters → y ≡ ending success iters → x ≡ y
-finished-one success iters = one
 
 -- ---- encoder: the answer and the codeword
 encoded-parts : {a a′ : ℕ} {s s′ : List ℕ} → encoded a s ≡ encoded a′ s′ → (a ≡ a′) × (s ≡ s′)
@@ -215,20 +137,3 @@ ldpc-llrs-to-hard-i8-one = llrs-to-hard-i8-one
 -- ---- sheet
 pub read-one : (text : List ℕ) {x y : Reading} → (x ≡ readOf text) × (textNumber x ≡ readAnswer text) → (y ≡ readOf text) × (textNumber y ≡ readAnswer text) → x ≡ y
 read-one text p q = one (p .0) (q .0)
-
-pub hex-bytes-one : (digits out : List ℕ) {x y : List ℕ} → x ≡ unhexed digits out → y ≡ unhexed digits out → x ≡ y
-hex-bytes-one digits out = one
-
-pub print-one : (answer : ℕ) (success : Bool) (iters : ℕ) (output : List ℕ) {x y : Answer}
-    → x ≡ answerOf (printed answer success iters (take maxOutput output)) → y ≡ answerOf (printed answer success iters (take maxOutput output)) → x ≡ y
-print-one answer success iters output = one
-
-pub sheet-one : (text : List ℕ) {x y : Answer} → x ≡ answerOf (sheetOf text) → y ≡ answerOf (sheetOf text) → x ≡ y
-sheet-one text = one
-
--- ---- measure
-pub measure-walk-one : (code : ℕ) {x y : ℕ} → x ≡ sumOf code → y ≡ sumOf code → x ≡ y
-measure-walk-one code = one
-
-pub measure-runs-one : (code : ℕ) {x y : ℕ} → x ≡ length (runs code) → y ≡ length (runs code) → x ≡ y
-measure-runs-one code = one

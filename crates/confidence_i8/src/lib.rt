@@ -33,7 +33,7 @@ pub fn add(a: i8, b: i8) -> i8
     clamp((a as i16) + (b as i16))
 }
 
-pub fn subtract(a: i8, b: i8) -> i8
+fn subtract(a: i8, b: i8) -> i8
     ensures { λ r. ⌜ r ≡ i8 .subtract a b ⌝ }
 {
     clamp((a as i16) - (b as i16))
