@@ -16,7 +16,7 @@ use Rattle.codes.specs.Edges.{edges}
 use Rattle.codes.specs.Equations.{wordOf}
 use Rattle.runs.specs.Meets.{holds}
 use Rattle.report.specs.Report.{refusal, ending, Told, told}
-use Rattle.bit_flip.specs.Flip.{flipped, pass, passes}
+use Rattle.bit_flip.specs.Flip.{flipped, turn, passes}
 use Rattle.bit_flip.specs.Erasures.{erasurePasses}
 use Rattle.bit_flip.specs.Outcome.{Outcome, left, toldFlip, decodeWord, received, punctured, decoded, outcome}
 use Rattle.bit_flip.proofs.Theorems.{answerOf, is-accepted, success-meets, clean}
@@ -106,9 +106,9 @@ unfolding decoded decodeWord erasurePasses
 report-is code input limit = ap (ending _) (add-zero _)
 
 pub bit-flip-counts : CountsPasses bitFlipping bitFlip
-unfolding pass
+unfolding turn
 bit-flip-counts code b limit h =
-    run-counted code (flippedIn code (b .input) limit) (pass (edges code) (checksIn code)) (λ w. holds (edges code) (checksIn code) (wordOf w)) (flipped (edges code)) (λ w. w)
+    run-counted code (flippedIn code (b .input) limit) (turn (edges code) (checksIn code)) (λ w. holds (edges code) (checksIn code) (wordOf w)) (flipped (edges code)) (λ w. w)
     (λ w. refl) (begun code (b .input) limit) (λ i. refl) limit (ap (λ (x : Outcome). x .report) (accepted-is code b limit h) ∙ report-is code (b .input) limit)
 
 pub bit-flip-steps : DecodesAs bitFlipping bitFlip

@@ -10,7 +10,7 @@ use Rattle.maths.specs.Lists.{span}
 use Rattle.maths.specs.Bytes.{pack}
 use Rattle.maths.proofs.Slices.{replicate-at}
 use Rattle.maths.proofs.Bytes.{pack-zero}
-use Rattle.codes.specs.Words.{generators}
+use Rattle.tables.specs.Words.{generators}
 use Rattle.codes.specs.Answers.{firstOf}
 use Rattle.codes.specs.Codes.{rows, rowOf}
 use Rattle.codes.proofs.Remaining.{begin}

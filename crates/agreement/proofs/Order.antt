@@ -9,7 +9,7 @@ use lib.ListN.{length}
 use Rattle.maths.specs.Tests.{pick}
 use Rattle.maths.specs.Lists.{span, fold}
 use Rattle.maths.specs.Bits.{bitAt}
-use Rattle.codes.specs.Tables.{prototypes, thetas, phis}
+use Rattle.tables.specs.Tables.{prototypes, thetas, phis}
 use Rattle.codes.specs.Codes.{rows, tables}
 use Rattle.codes.specs.Blocks.{blockOf, cellBlocks, rowBlocks, lastRows}
 use Rattle.codes.specs.Edges.{edgeAt, blockEdges, blocksOf, edges}

@@ -18,7 +18,7 @@ use Rattle.maths.specs.Budget.{Turn, stop, go, End, end, run}
 use Rattle.maths.proofs.Lists.{span-length}
 use Rattle.maths.proofs.Slices.{span-get}
 use Rattle.maths.proofs.Bytes.{bitAt-pack}
-use Rattle.codes.specs.Tables.{prototypes, thetas, phis}
+use Rattle.tables.specs.Tables.{prototypes, thetas, phis}
 use Rattle.codes.specs.Codes.{rows, tables}
 use Rattle.codes.specs.Blocks.{blockOf, cellBlocks, rowBlocks, lastRows}
 use Rattle.codes.specs.Edges.{Edge, edgeAt, blockEdges, blocksOf, edges}
@@ -28,7 +28,7 @@ use Rattle.runs.proofs.Flat.{edges-ranged}
 use Rattle.runs.proofs.Parity.{holds-hold}
 use Rattle.matrices.proofs.Edges.{par-below}
 use Rattle.report.specs.Report.{ending, Told, told}
-use Rattle.bit_flip.specs.Flip.{broken, score, topScore, flipped, pass, passes}
+use Rattle.bit_flip.specs.Flip.{broken, score, topScore, flipped, turn, passes}
 use Rattle.bit_flip.specs.Erasures.{erasurePasses}
 use Rattle.bit_flip.specs.Outcome as flip
 use Rattle.bit_flip.specs.Steps.{Bits}
@@ -159,8 +159,8 @@ flipped-unmet =
     ∙ flipped-odd (topScore (edges 0) word))
 
 -- a pass over a word that breaks an equation flips
-goes : (w : List ℕ) → (Hold (edges 0) 64 (wordOf w) → ⊥) → pass (edges 0) 64 w ≡ go (flipped (edges 0) w)
-unfolding pass
+goes : (w : List ℕ) → (Hold (edges 0) 64 (wordOf w) → ⊥) → turn (edges 0) 64 w ≡ go (flipped (edges 0) w)
+unfolding turn
 goes w h = rw (unmet-false (edges 0) 64 (wordOf w) h)
 
 -- what the passes of a call leave
@@ -176,13 +176,13 @@ unfolding flip.outcome flip.decoded flip.decodeWord erasurePasses rows
 flip-leaves limit = refl
 
 pub flip-misses : bitFlip 0 (hardLent spoilt) 1 .report .success ≡ false
-flip-misses = flip-says 1 ∙ ap (λ (x : End (List ℕ)). x .success) (run-once (pass (edges 0) 64) (goes word word-unmet))
+flip-misses = flip-says 1 ∙ ap (λ (x : End (List ℕ)). x .success) (run-once (turn (edges 0) 64) (goes word word-unmet))
 
 pub flip-moves : bitFlip 0 (hardLent spoilt) 1 .output ≡ bitFlip 0 (hardLent spoilt) 2 .output → ⊥
 flip-moves same =
     let u = flipped (edges 0) word in
-    let one : flips 1 .state ≡ u = ap (λ (x : End (List ℕ)). x .state) (run-once (pass (edges 0) 64) (goes word word-unmet)) in
-    let two : flips 2 .state ≡ flipped (edges 0) u = run-twice (pass (edges 0) 64) (goes word word-unmet) false (goes u flipped-unmet) in
+    let one : flips 1 .state ≡ u = ap (λ (x : End (List ℕ)). x .state) (run-once (turn (edges 0) 64) (goes word word-unmet)) in
+    let two : flips 2 .state ≡ flipped (edges 0) u = run-twice (turn (edges 0) 64) (goes word word-unmet) false (goes u flipped-unmet) in
     let e : pack (wordOf u) 16 ≡ pack (wordOf (flipped (edges 0) u)) 16 =
     ap (λ (w : List ℕ). pack (wordOf w) 16) (sym one) ∙ sym (flip-leaves 1) ∙ same ∙ flip-leaves 2 ∙ ap (λ (w : List ℕ). pack (wordOf w) 16) two in
     let long : length u ≡ 128 = flipped-length (edges 0) word ∙ word-long in

@@ -16,7 +16,7 @@ use Rattle.runs.specs.Runs.{laid}
 use Rattle.runs.specs.Meets.{holds, syndromeOf}
 use Rattle.runs.proofs.Parity.{none-broken, laid-ranged}
 use Rattle.scores.specs.Scores.{give, flipByte}
-use Rattle.bit_flip.specs.Flip.{flipped, pass, passes}
+use Rattle.bit_flip.specs.Flip.{flipped, turn, passes}
 use Rattle.bit_flip.specs.Steps.{FewEdges, Bits}
 use Rattle.bit_flip.proofs.Scores.{flipped-by, flipped-kept, gone}
 
@@ -36,12 +36,12 @@ module _ (ns w s : List ℕ) (m n t : ℕ) (et : t ≡ largestOf s) (es : s ≡ 
   found : eqb t 0 ≡ holds (laid m n ns) m (wordOf w)
   found = rw (et, es) (none-broken (laid m n ns) m (wordOf w))
 
-  pub pass-stops : t ≡ 0 → stop w ≡ pass (laid m n ns) m w
-  unfolding pass
+  pub pass-stops : t ≡ 0 → stop w ≡ turn (laid m n ns) m w
+  unfolding turn
   pass-stops e = rw (sym found ∙ eq-eqb t 0 e)
 
-  pub pass-goes : (k : ℕ) (w′ : List ℕ) → (t ≡ 0 → ⊥) → w′ ≡ flipped (laid k n ns) w → k ≡ m → go w′ ≡ pass (laid m n ns) m w
-  unfolding pass
+  pub pass-goes : (k : ℕ) (w′ : List ℕ) → (t ≡ 0 → ⊥) → w′ ≡ flipped (laid k n ns) w → k ≡ m → go w′ ≡ turn (laid m n ns) m w
+  unfolding turn
   pass-goes k w′ e f l = rw (sym found ∙ ne-eqb t 0 e, f, l)
 
 -- ---- the loop, at pass k of limit, with m′ checks and n′ bits: the passes left give from the present word what all give from the first
@@ -50,24 +50,24 @@ pub record Passing (ns : List ℕ) (m n limit k m′ n′ : ℕ) (w₀ w : List 
   pub checks-long : m′ ≡ m
   pub bits-long : n′ ≡ n
   pub bits : Bits w
-  pub ran : run (pass (laid m n ns) m) (limit - k) k w ≡ passes (laid m n ns) m limit w₀
+  pub ran : run (turn (laid m n ns) m) (limit - k) k w ≡ passes (laid m n ns) m limit w₀
 
 pub passing-first : {ns w : List ℕ} {m n limit : ℕ} → Bits w → Passing ns m n limit 0 m n w w
-passing-first {ns} {w} {m} {n} {limit} b = record { low = omega arith; checks-long = refl; bits-long = refl; bits = b; ran = run-first (pass (laid m n ns) m) limit w }
+passing-first {ns} {w} {m} {n} {limit} b = record { low = omega arith; checks-long = refl; bits-long = refl; bits = b; ran = run-first (turn (laid m n ns) m) limit w }
 
 module _ {ns : List ℕ} {m n limit k m′ n′ : ℕ} {w₀ w : List ℕ} where
   pub passing-last : Passing ns m n limit k m′ n′ w₀ w → limit ≤ k → end false limit w ≡ passes (laid m n ns) m limit w₀
-  passing-last p h = run-out (pass (laid m n ns) m) limit k w (p .ran) (p .low) h
+  passing-last p h = run-out (turn (laid m n ns) m) limit k w (p .ran) (p .low) h
 
   pub passing-few : Passing ns m n limit k m′ n′ w₀ w → FewEdges (laid m n ns) → FewEdges (laid m′ n′ ns)
   passing-few p h = few-moved ns m n m′ n′ h (p .checks-long) (p .bits-long)
 
-  module _ (w′ : List ℕ) (b : Bool) (e : pick b (stop w′) (go w′) ≡ pass (laid m′ n′ ns) m′ w) (p : Passing ns m n limit k m′ n′ w₀ w) (h : k < limit) where
-    turned-by : pass (laid m n ns) m w ≡ pick b (stop w′) (go w′)
+  module _ (w′ : List ℕ) (b : Bool) (e : pick b (stop w′) (go w′) ≡ turn (laid m′ n′ ns) m′ w) (p : Passing ns m n limit k m′ n′ w₀ w) (h : k < limit) where
+    turned-by : turn (laid m n ns) m w ≡ pick b (stop w′) (go w′)
     turned-by = sym (rw (p .checks-long, p .bits-long) at e)
 
     pub passing-stop : b ≡ true → end true k w′ ≡ passes (laid m n ns) m limit w₀
-    passing-stop f = run-stop (pass (laid m n ns) m) limit k w (p .ran) h (rw f at turned-by)
+    passing-stop f = run-stop (turn (laid m n ns) m) limit k w (p .ran) h (rw f at turned-by)
 
     pub passing-more : (m″ n″ : ℕ) → b ≡ false → m″ ≡ m′ → n″ ≡ n′ → Passing ns m n limit (k + 1) m″ n″ w₀ w′
     passing-more m″ n″ f lm ln =
@@ -77,7 +77,7 @@ module _ {ns : List ℕ} {m n limit k m′ n′ : ℕ} {w₀ w : List ℕ} where
           checks-long = lm ∙ p .checks-long;
           bits-long = ln ∙ p .bits-long;
           bits = flipped-kept (laid m n ns) w (p .bits) (gone (laid m n ns) m w w′ g);
-          ran = run-more (pass (laid m n ns) m) limit k w (p .ran) h g;
+          ran = run-more (turn (laid m n ns) m) limit k w (p .ran) h g;
         }
 
 pub ruleset passing = (flip-by, few-moved, broken-moved, pass-stops, pass-goes, passing-first, passing-last, passing-few, passing-stop, passing-more, needs)

@@ -19,7 +19,7 @@ use Rattle.codes.specs.Equations.{checksOf, par, wordOf}
 use Rattle.runs.specs.Meets.{holds, syndromeOf}
 use Rattle.scores.specs.Scores.{give, flipByte}
 use Rattle.scores.proofs.Scores.{gave, flip-one}
-use Rattle.bit_flip.specs.Flip.{broken, score, topScore, flipped, pass}
+use Rattle.bit_flip.specs.Flip.{broken, score, topScore, flipped, turn}
 use Rattle.bit_flip.specs.Steps.{FewEdges, Bits}
 
 -- the sum over the checks of a bit, where only checks in range have edges
@@ -99,8 +99,8 @@ pub flipped-kept : (es : List Edge) (w : List ℕ) → Bits w → {w′ : List �
 flipped-kept es w bits e = rw e (flipped-bits es w bits)
 
 -- a pass that goes on has flipped
-pub gone : (es : List Edge) (m : ℕ) (s t : List ℕ) → pass es m s ≡ go t → t ≡ flipped es s
-unfolding pass
+pub gone : (es : List Edge) (m : ℕ) (s t : List ℕ) → turn es m s ≡ go t → t ≡ flipped es s
+unfolding turn
 gone es m s t = by (holds es m (wordOf s))
   where
     by : (b : Bool) → pick b (stop s) (go (flipped es s)) ≡ go t → t ≡ flipped es s

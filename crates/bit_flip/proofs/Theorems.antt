@@ -30,7 +30,7 @@ use Rattle.runs.specs.Meets.{holds}
 use Rattle.codes.proofs.Codes.{roomy, tc-sent}
 use Rattle.runs.proofs.Parity.{holds-hold, hold-holds}
 use Rattle.report.specs.Report.{refusal, ending}
-use Rattle.bit_flip.specs.Flip.{flipped, pass, passes}
+use Rattle.bit_flip.specs.Flip.{flipped, turn, passes}
 use Rattle.bit_flip.specs.Erasures.{voted, filled, erasurePasses}
 use Rattle.bit_flip.specs.Outcome.{left, decodeWord, received, punctured, decoded, tests, outcome}
 use Rattle.bit_flip.specs.Steps.{Bits}
@@ -49,28 +49,28 @@ packed-word w n e bits = fun-ext (λ v. at v (decLt v (n * 8)))
 
 -- ---- a pass: what it stops with, and what it keeps
 module _ (es : List Edge) (m : ℕ) where
-  stopped : (s t : List ℕ) → pass es m s ≡ stop t → (s ≡ t) × (holds es m (wordOf t) ≡ true)
-  unfolding pass
+  stopped : (s t : List ℕ) → turn es m s ≡ stop t → (s ≡ t) × (holds es m (wordOf t) ≡ true)
+  unfolding turn
   stopped s t = by (holds es m (wordOf s)) refl
     where
       by : (b : Bool) → holds es m (wordOf s) ≡ b → pick b (stop s) (go (flipped es s)) ≡ stop t → (s ≡ t) × (holds es m (wordOf t) ≡ true)
       by true h e = let q : s ≡ t = cc in (q, rw (← q) h)
       by false h e = absurd (let z : _≡_ {A = ℕ} 0 1 = cc in omega arith)
 
-  clean-pass : (s : List ℕ) → holds es m (wordOf s) ≡ true → pass es m s ≡ stop s
-  unfolding pass
+  clean-pass : (s : List ℕ) → holds es m (wordOf s) ≡ true → turn es m s ≡ stop s
+  unfolding turn
   clean-pass s e = rw e
 
   passes-success : (limit : ℕ) (w : List ℕ) → passes es m limit w .success ≡ true → holds es m (wordOf (passes es m limit w .state)) ≡ true
-  passes-success limit w e = run-success (pass es m) (λ s. holds es m (wordOf s) ≡ true) (λ s t q. stopped s t q .1) limit 0 w e
+  passes-success limit w e = run-success (turn es m) (λ s. holds es m (wordOf s) ≡ true) (λ s t q. stopped s t q .1) limit 0 w e
 
   passes-bits : (limit : ℕ) (w : List ℕ) → Bits w → Bits (passes es m limit w .state)
   passes-bits limit w h =
-      run-kept (pass es m) Bits (λ s t q b. subst Bits (stopped s t q .0) b) (λ s t q b. subst Bits (sym (gone es m s t q)) (flipped-bits es s b)) limit 0 w h
+      run-kept (turn es m) Bits (λ s t q b. subst Bits (stopped s t q .0) b) (λ s t q b. subst Bits (sym (gone es m s t q)) (flipped-bits es s b)) limit 0 w h
 
   pub passes-length : (limit : ℕ) (w : List ℕ) → length (passes es m limit w .state) ≡ length w
   passes-length limit w =
-      run-kept (pass es m) (λ s. length s ≡ length w) (λ s t q l. subst (λ (x : List ℕ). length x ≡ length w) (stopped s t q .0) l)
+      run-kept (turn es m) (λ s. length s ≡ length w) (λ s t q l. subst (λ (x : List ℕ). length x ≡ length w) (stopped s t q .0) l)
       (λ s t q l. subst (λ (x : List ℕ). length x ≡ length w) (sym (gone es m s t q)) (flipped-length es s ∙ l)) limit 0 w refl
 
 -- ---- a call that passes its tests
@@ -170,7 +170,7 @@ module _ (code limit : ℕ) (input output working s : List ℕ) (e : answerOf co
       → outcome code input output working limit ≡ left (ending true 0) (pack (wordOf s) (rowOf code .«output_len»)) (replicate (bitsIn code) 0)
   ends-at-once meets h =
       let p = clean-pass (edges code) (checksIn code) s (hold-holds (edges code) (checksIn code) (wordOf s) meets) in
-      outcome-from ∙ rw (run-at-once (pass (edges code) (checksIn code)) limit s s h p)
+      outcome-from ∙ rw (run-at-once (turn (edges code) (checksIn code)) limit s s h p)
 
 -- no bit of a TC code is erased: the main passes begin with the word received
 module _ (code : ℕ) (tc : TC code) (limit : ℕ) (input : List ℕ) where

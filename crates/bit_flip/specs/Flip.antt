@@ -28,9 +28,9 @@ unfoldable pub flipped : List Edge → List ℕ → List ℕ
 flipped es w = span (λ v. pick (eqb (score es w v) (topScore es w)) (1 - wordOf w v) (wordOf w v)) 0 (length w)
 
 -- "find broken checks; if none, success with the pass number. Otherwise .. flip": no check follows the last flip
-unfoldable pub pass : List Edge → ℕ → List ℕ → Turn (List ℕ)
-pass es m w = pick (holds es m (wordOf w)) (stop w) (go (flipped es w))
+unfoldable pub turn : List Edge → ℕ → List ℕ → Turn (List ℕ)
+turn es m w = pick (holds es m (wordOf w)) (stop w) (go (flipped es w))
 
 -- "Each main pass, numbered from 0 .. After maxiters passes: false, maxiters."
 abbrev pub passes : List Edge → ℕ → ℕ → List ℕ → End (List ℕ)
-passes es m limit w = run (pass es m) limit 0 w
+passes es m limit w = run (turn es m) limit 0 w

@@ -6,7 +6,7 @@ ghost use Rattle.maths.specs.Budget.{stop, go, end};
 ghost use Rattle.runs.specs.Runs.{laid};
 ghost use Rattle.codes.specs.Equations.{wordOf};
 ghost use Rattle.runs.specs.Meets.{syndromeOf};
-ghost use Rattle.bit_flip.specs.Flip.{flipped, pass, passes};
+ghost use Rattle.bit_flip.specs.Flip.{flipped, turn, passes};
 ghost use Rattle.bit_flip.specs.Steps.{FewEdges, Bits};
 use report::Ended;
 use runs::meets::syndrome;
@@ -26,7 +26,7 @@ fn flip_pass(triples: &[u16], checks: &[u8], bits: &mut [u8])
 // One pass: whether no check is broken. Where one is, bits are flipped.
 fn one_pass(triples: &[u16], bits: &mut [u8], checks: &mut [u8]) -> bool
     requires { ⌜ (Bits (now bits)) × (FewEdges (laid (length (now checks)) (length (now bits)) (now triples))) ⌝ }
-    ensures { λ r. ⌜ pick r (stop (now (bits .exit))) (go (now (bits .exit))) ≡ pass (laid (length (now (checks .entry))) (length (now (bits .entry))) (now (triples .entry))) (length (now (checks .entry))) (now (bits .entry)) ⌝ }
+    ensures { λ r. ⌜ pick r (stop (now (bits .exit))) (go (now (bits .exit))) ≡ turn (laid (length (now (checks .entry))) (length (now (bits .entry))) (now (triples .entry))) (length (now (checks .entry))) (now (bits .entry)) ⌝ }
 {
     syndrome(triples, bits, checks);
     if bits::largest(checks) == 0 {

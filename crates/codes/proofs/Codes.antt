@@ -15,7 +15,8 @@ use Rattle.codes.specs.declared.ParamsAnswer.{ParamsAnswer}
 use Rattle.codes.specs.declared.MatrixTables.{MatrixTables}
 use Rattle.codes.specs.declared.«parity_iter».Block.{Block}
 use Rattle.codes.specs.declared.«parity_iter».Block.the-variants.{Ends, Empty, Identity, Permutation}
-use Rattle.codes.specs.Tables.{prototypes, phis}
+use Rattle.tables.specs.Choice.{listed}
+use Rattle.tables.specs.Tables.{prototypes}
 use Rattle.codes.specs.Codes.{codes, Known, known, paramsOf, tcCodes, TC, TM, rows, row, rowOf, bitsIn, checksIn, circulantOf, tables, tablesOf, matrixOf, prototypeOf, maxBits, maxBlock, maxChecks}
 use Rattle.codes.specs.Blocks.{byteAt, blockOf, cellBlocks, rowBlocks, lastRows}
 use Rattle.codes.specs.Edges.{edgeAt, blockEdges, blocksOf, edges}
@@ -76,18 +77,7 @@ pub tm-punctured : (code : ℕ) → TM code → 0 < rowOf code .«punctured_bits
 unfolding rows
 tm-punctured code tm = ltb→lt 0 (rowOf code .«punctured_bits») (tm-at (λ c. ltb 0 (rowOf c .«punctured_bits»)) tt code tm)
 
--- the tables of every code are there, and the first ones where it is not known
-tables-test : MatrixTables → Bool
-tables-test t = both (ltb (t .prototype) (length prototypes)) (ltb (t .phi) (length phis))
-
-pub tables-low : (code : ℕ) {t : MatrixTables} → t ≡ tablesOf code → (t .prototype < length prototypes) × (t .phi < length phis)
-unfolding tables prototypes phis tables-test
-tables-low code {t} e =
-    let a = rw (← e) at (all-anywhere tables-test (record { prototype = 0; phi = 0 }) tt tables tt code) in (
-      ltb→lt (t .prototype) (length prototypes) (both-left (ltb (t .prototype) (length prototypes)) (ltb (t .phi) (length phis)) a),
-      ltb→lt (t .phi) (length phis) (both-right (ltb (t .prototype) (length prototypes)) (ltb (t .phi) (length phis)) a),
-    )
-
+-- the first tables where a code is not known
 pub tables-unknown : (code : ℕ) → codes ≤ code → tablesOf code ≡ record { prototype = 0; phi = 0 }
 unfolding tables
 tables-unknown code h = List·getD-eq-default tables _ h
@@ -100,7 +90,7 @@ byte-low : (code l r c : ℕ) → byteAt (prototypeOf code) l r c < 154
 unfolding prototypes byte-test
 byte-low code l r c =
     let H = prototypeOf code in
-    let a = all-anywhere (all (all (all byte-test))) [] tt prototypes tt (tablesOf code .prototype) in
+    let a = all-anywhere (all (all (all byte-test))) [] tt prototypes tt (listed (tablesOf code .prototype) (length prototypes)) in
     let b = all-anywhere (all (all byte-test)) [] tt H a l in
     let d = all-anywhere (all byte-test) [] tt (getD H l []) b r in
     ltb→lt (byteAt H l r c) 154 (all-anywhere byte-test 0 tt (getD (getD H l []) r []) d c)

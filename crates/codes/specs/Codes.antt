@@ -8,8 +8,9 @@ use Rattle.codes.specs.declared.CodeParams.{CodeParams}
 use Rattle.codes.specs.declared.MatrixTables.{MatrixTables}
 use Rattle.codes.specs.declared.ParamsAnswer.{ParamsAnswer}
 use Rattle.codes.specs.Answers.{test, firstOf}
-use Rattle.codes.specs.Tables.{prototypes, thetas, phis}
-use Rattle.codes.specs.Words.{generators}
+use Rattle.tables.specs.Choice.{tableAt}
+use Rattle.tables.specs.Tables.{prototypes, thetas, phis}
+use Rattle.tables.specs.Words.{generators}
 
 -- how many codes there are, and which numbers are theirs
 abbrev pub codes : ℕ
@@ -129,10 +130,10 @@ abbrev pub made : ℕ → List ℕ → List (List ℕ) → List (List (List ℕ)
 made m theta phi H = record { size = m; theta = theta; phi = phi; prototype = H }
 
 abbrev pub prototypeOf : ℕ → List (List (List ℕ))
-prototypeOf code = getD prototypes (tablesOf code .prototype) []
+prototypeOf code = tableAt prototypes (tablesOf code .prototype)
 
 abbrev pub phiOf : ℕ → List (List ℕ)
-phiOf code = getD phis (tablesOf code .phi) []
+phiOf code = tableAt phis (tablesOf code .phi)
 
 abbrev pub matrixOf : ℕ → Matrix
 matrixOf code = made (rowOf code .«submatrix_size») thetas (phiOf code) (prototypeOf code)

@@ -3,12 +3,10 @@ ghost use mathlib.Core.Path.{_≡_};
 ghost use Rattle.codes.specs.Answers.{test, orTest, unlike};
 ghost use Rattle.codes.specs.Codes.{Known, rowOf, paramsOf, tablesOf, prototypeOf, phiOf};
 
-pub mod compact_generators;
-pub mod compact_parity_checks;
 pub mod parity_iter;
 
-use compact_parity_checks::PHI_J_K;
-use compact_parity_checks::PROTOTYPES;
+use tables::phi_at;
+use tables::prototype_at;
 
 // The answers: 0, or the first test that a call fails.
 pub const ACCEPTED: u8 = 0;
@@ -248,15 +246,13 @@ fn tables_of(code: usize) -> MatrixTables
 pub fn prototype_of(code: usize) -> [[[u8; 11]; 4]; 3]
     ensures { λ r. ⌜ r ≡ prototypeOf code ⌝ }
 {
-    let t = tables_of(code).prototype;
-    PROTOTYPES[t]
+    prototype_at(tables_of(code).prototype)
 }
 
 pub fn phi_of(code: usize) -> [[u16; 26]; 4]
     ensures { λ r. ⌜ r ≡ phiOf code ⌝ }
 {
-    let t = tables_of(code).phi;
-    PHI_J_K[t]
+    phi_at(tables_of(code).phi)
 }
 
 // The parameters of a code.

@@ -9,10 +9,10 @@ ghost use Rattle.codes.specs.Walk.{Inside, matrix, remaining, startAt, b
 use crate::ACCEPTED;
 use crate::CODES;
 use crate::UNKNOWN_CODE;
-use crate::compact_parity_checks::THETA_K;
 use crate::phi_of;
 use crate::prototype_of;
 use crate::row_of;
+use tables::compact_parity_checks::THETA_K;
 
 // The number of a check, and the number of a bit: two types, so that neither can be used as the other.
 pub struct Check(pub usize);

@@ -12,7 +12,7 @@ use Rattle.maths.proofs.Tests.{below-at}
 use Rattle.maths.proofs.Lists.{span-same}
 use Rattle.maths.proofs.Bytes.{bitAt-take}
 use Rattle.codes.specs.declared.CodeParams.{CodeParams}
-use Rattle.codes.specs.Words.{generators}
+use Rattle.tables.specs.Words.{generators}
 use Rattle.codes.specs.Codes.{codes, Known, rows, rowOf, generatorOf, circulantOf}
 use Rattle.codes.specs.Frames.{parity, generator, generatorBit, encodedBytes}
 use Rattle.codes.proofs.Codes.{roomy}

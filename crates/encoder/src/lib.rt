@@ -15,16 +15,16 @@ use codes::ACCEPTED;
 use codes::CodeParams;
 use codes::WRONG_READ;
 use codes::WRONG_WRITTEN;
-use codes::compact_generators::TC128_G;
-use codes::compact_generators::TC256_G;
-use codes::compact_generators::TC512_G;
-use codes::compact_generators::TM1280_G;
-use codes::compact_generators::TM1536_G;
-use codes::compact_generators::TM2048_G;
-use codes::compact_generators::TM5120_G;
 use codes::or_length;
 use codes::params;
 use parity::encode_parity;
+use tables::compact_generators::TC128_G;
+use tables::compact_generators::TC256_G;
+use tables::compact_generators::TC512_G;
+use tables::compact_generators::TM1280_G;
+use tables::compact_generators::TM1536_G;
+use tables::compact_generators::TM2048_G;
+use tables::compact_generators::TM5120_G;
 
 // A constant has no memory of its own: the generator is a local, made once for a call and lent. A temporary in its place costs TC128 40 %.
 fn encode_known(code: usize, row: CodeParams, codeword: &mut [u8])

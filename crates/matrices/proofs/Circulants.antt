@@ -16,7 +16,7 @@ use Rattle.maths.proofs.Lists.{span-ext, flatMap-ext, flatMap-flatMap, flatMap-
 use Rattle.codes.specs.declared.«parity_iter».Place.{Place}
 use Rattle.codes.specs.declared.«parity_iter».Block.{Block}
 use Rattle.codes.specs.declared.«parity_iter».Block.the-variants.{Ends, Empty, Identity, Permutation}
-use Rattle.codes.specs.Tables.{prototypes}
+use Rattle.tables.specs.Tables.{prototypes}
 use Rattle.codes.specs.Codes.{codes, Known, Matrix, matrixOf, prototypeOf, rows, rowOf, tables, bitsIn, checksIn, circulantOf}
 use Rattle.codes.specs.Blocks.{blockOf, blockAt, cellBlocks, rowBlocks, lastRows}
 use Rattle.codes.specs.Edges.{Edge, edge, columnOf, edgeAt, blockEdges, blocksOf, edges}

@@ -14,7 +14,7 @@ use Rattle.maths.proofs.Tally.{tally-keep}
 use Rattle.codes.specs.declared.«parity_iter».Place.{Place}
 use Rattle.codes.specs.declared.«parity_iter».Block.{Block}
 use Rattle.codes.specs.declared.«parity_iter».Block.the-variants.{Ends, Empty, Identity, Permutation}
-use Rattle.codes.specs.Tables.{prototypes}
+use Rattle.tables.specs.Tables.{prototypes}
 use Rattle.codes.specs.Codes.{codes, Known, matrixOf, prototypeOf, tables, bitsIn, checksIn}
 use Rattle.codes.specs.Blocks.{blockOf, blockAt, place, layered, cellBlocks, rowBlocks, lastRows}
 use Rattle.codes.specs.Edges.{edgeAt, columnOf, blockEdges, blocksOf, edges}

@@ -12,7 +12,7 @@ use Rattle.maths.specs.Tally.{apart}
 use Rattle.maths.proofs.Tests.{both-left, both-right, below-at}
 use Rattle.maths.proofs.Tally.{tally-once}
 use Rattle.maths.proofs.Turns.{turn-alike}
-use Rattle.codes.specs.Tables.{prototypes, thetas}
+use Rattle.tables.specs.Tables.{prototypes, thetas}
 use Rattle.codes.specs.Codes.{codes, Known, rows, tables, circulantOf}
 use Rattle.codes.specs.Blocks.{blockOf, cellBlocks, rowBlocks, lastRows}
 use Rattle.codes.specs.Edges.{blocksOf, edges}

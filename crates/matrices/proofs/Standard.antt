@@ -9,7 +9,7 @@ use Rattle.maths.specs.Tests.{all, below}
 use Rattle.maths.specs.Lists.{span}
 use Rattle.maths.proofs.Tests.{below-at, below-eq, all-at}
 use Rattle.maths.proofs.Lists.{table-same}
-use Rattle.codes.specs.Tables.{prototypes}
+use Rattle.tables.specs.Tables.{prototypes}
 use Rattle.codes.specs.Codes.{codes, Known, rows, tables, prototypeOf, bitsIn, checksIn}
 use Rattle.codes.specs.Blocks.{blockOf}
 use Rattle.matrices.specs.Ccsds.{Cell, standards, standardOf, cellOf, tc128, tc256, tc512, half, before, twoThirds, threeQuarters, fourFifths}

@@ -9,8 +9,8 @@ use Rattle.maths.specs.Tests.{below}
 use Rattle.maths.specs.Lists.{span}
 use Rattle.maths.specs.Sums.{sumN, Even}
 use Rattle.maths.proofs.Tests.{below-at}
-use Rattle.codes.specs.Tables.{prototypes}
-use Rattle.codes.specs.Words.{generators}
+use Rattle.tables.specs.Tables.{prototypes}
+use Rattle.tables.specs.Words.{generators}
 use Rattle.codes.specs.Codes.{Known, tcCodes, TC, rows, rowOf, bitsIn, checksIn, tables, circulantOf}
 use Rattle.codes.specs.Blocks.{blockOf, cellBlocks, rowBlocks, lastRows}
 use Rattle.codes.specs.Edges.{blocksOf, edges}

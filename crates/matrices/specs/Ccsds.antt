@@ -4,7 +4,7 @@ use Prim.Native.Nat.{ℕ, _+_, _-_, _*_, _/_, _%_}
 use lib.Dec.{eqb}
 use lib.ListN.{getD}
 use Rattle.maths.specs.Tally.{tally}
-use Rattle.codes.specs.Tables.{thetas}
+use Rattle.tables.specs.Tables.{thetas}
 use Rattle.codes.specs.Codes.{phiOf}
 
 -- a term of a block: the identity turned right by a number of columns, or the permutation with a number

@@ -16,7 +16,7 @@ use Rattle.maths.proofs.Lists.{flatMap-cons, flatMap-append}
 use Rattle.codes.specs.declared.«parity_iter».Place.{Place}
 use Rattle.codes.specs.declared.«parity_iter».Block.{Block}
 use Rattle.codes.specs.declared.«parity_iter».Block.the-variants.{Ends, Empty, Identity, Permutation}
-use Rattle.codes.specs.Tables.{prototypes}
+use Rattle.tables.specs.Tables.{prototypes}
 use Rattle.codes.specs.Codes.{codes, Known, tables, Matrix, matrixOf}
 use Rattle.codes.specs.Blocks.{blockOf, blockAt, cellBlocks, rowBlocks, lastRows}
 use Rattle.codes.specs.Edges.{Edge, edge, blocksOf, edges}

@@ -11,7 +11,7 @@ use borrow.Author.Tests.{ltb-false, lt-ltb, le-ltb}
 use Rattle.maths.specs.Tests.{below}
 use Rattle.maths.proofs.Tests.{below-at}
 use Rattle.maths.proofs.Stores.{sets-replicate}
-use Rattle.codes.specs.Tables.{prototypes, thetas, phis}
+use Rattle.tables.specs.Tables.{prototypes, thetas, phis}
 use Rattle.codes.specs.declared.ParamsAnswer.{ParamsAnswer}
 use Rattle.codes.specs.Codes.{codes, Known, rows, tables, paramsOf, made, matrixOf, prototypeOf, phiOf}
 use Rattle.codes.specs.Blocks.{blockOf, cellBlocks, rowBlocks, lastRows, blocks}

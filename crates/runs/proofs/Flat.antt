@@ -17,7 +17,7 @@ use Rattle.maths.proofs.Lists.{span-split, span-ext, flatMap-ext, flatMap-cons,
 use Rattle.codes.specs.declared.«parity_iter».Place.{Place}
 use Rattle.codes.specs.declared.«parity_iter».Block.{Block}
 use Rattle.codes.specs.declared.«parity_iter».Block.the-variants.{Ends, Empty, Identity, Permutation}
-use Rattle.codes.specs.Tables.{prototypes, thetas, phis}
+use Rattle.tables.specs.Tables.{prototypes, thetas, phis}
 use Rattle.codes.specs.Codes.{codes, Known, rows, tables, bitsIn, checksIn, Matrix, matrixOf, prototypeOf}
 use Rattle.codes.specs.Blocks.{blockOf, blockAt, cellBlocks, rowBlocks, lastRows}
 use Rattle.codes.specs.Edges.{Edge, edge, inRange, columnOf, permutationColumn, edgeAt, blockEdges, blocksOf, edges}

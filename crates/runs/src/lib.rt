@@ -9,7 +9,6 @@ ghost use Rattle.codes.specs.Blocks.{blocks};
 ghost use Rattle.runs.specs.Runs.{run, within, turnedRuns, quarter, quarters, runsAt, blockRuns, runsOf, readRuns, room, Stored};
 ghost use Rattle.runs.specs.Sound.{TurnFits, QuarterFits, BlockFits, PlaceFits, RunsFit};
 use codes::ACCEPTED;
-use codes::compact_parity_checks::THETA_K;
 use codes::params;
 use codes::parity_iter::Bit;
 use codes::parity_iter::Block;
@@ -23,6 +22,7 @@ use codes::parity_iter::next_block;
 use codes::parity_iter::wide;
 use codes::phi_of;
 use codes::prototype_of;
+use tables::compact_parity_checks::THETA_K;
 
 pub mod meets;
 

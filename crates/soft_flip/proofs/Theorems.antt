@@ -15,7 +15,7 @@ use Rattle.maths.specs.Ones.{delta}
 use Rattle.maths.specs.Budget.{end, run}
 use Rattle.maths.proofs.Tests.{below-at}
 use Rattle.maths.proofs.Ones.{sum-all}
-use Rattle.codes.specs.Tables.{prototypes}
+use Rattle.tables.specs.Tables.{prototypes}
 use Rattle.codes.specs.Codes.{Known, TC, tcCodes, rows, tables, bitsIn, checksIn, circulantOf}
 use Rattle.codes.specs.Blocks.{blockOf, cellBlocks, rowBlocks, lastRows}
 use Rattle.codes.specs.Edges.{blocksOf, edges}

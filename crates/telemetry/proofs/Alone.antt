@@ -9,7 +9,7 @@ use lib.Dec.{T}
 use Rattle.maths.specs.Tests.{pick, below}
 use Rattle.maths.specs.Lists.{span}
 use Rattle.maths.specs.Sums.{sumL}
-use Rattle.codes.specs.Tables.{prototypes, thetas, phis}
+use Rattle.tables.specs.Tables.{prototypes, thetas, phis}
 use Rattle.codes.specs.Codes.{tcCodes, TM, rows, rowOf, bitsIn, tables, circulantOf}
 use Rattle.codes.specs.Blocks.{blockOf, cellBlocks, rowBlocks, lastRows}
 use Rattle.codes.specs.Edges.{blocksOf, edges}

@@ -19,7 +19,7 @@ use Rattle.codes.specs.Edges.{Edge}
 use Rattle.codes.specs.Equations.{bitsOf, wordOf, Hold}
 use Rattle.runs.specs.Meets.{holds}
 use Rattle.matrices.proofs.Edges.{Ranged}
-use Rattle.bit_flip.specs.Flip.{broken, score, topScore, flipped, pass, passes}
+use Rattle.bit_flip.specs.Flip.{broken, score, topScore, flipped, turn, passes}
 use Rattle.bit_flip.specs.Steps.{Bits}
 use Rattle.bit_flip.proofs.Scores.{sum-ranged, flipped-length, flipped-bits}
 use Rattle.two_flips.specs.Words.{plus}
@@ -89,15 +89,15 @@ module _ (es : List Edge) (m n : ℕ) (ranged : Ranged m n es) (w : List ℕ) (g
         here false v = plus-at w e long v
 
   -- a run from the sum ends as the run from the error does
-  pub run-plus : Bits w → (b j : ℕ) (e : List ℕ) → length e ≡ length w → Bits e → run (pass es m) b j (plus w e) ≡ endPlus w (run (pass es m) b j e)
-  unfolding run pass
+  pub run-plus : Bits w → (b j : ℕ) (e : List ℕ) → length e ≡ length w → Bits e → run (turn es m) b j (plus w e) ≡ endPlus w (run (turn es m) b j e)
+  unfolding run turn
   run-plus w-bits zero j e long bits = refl
   run-plus w-bits (suc b) j e long bits =
       rw (holds-plus e long, flipped-plus e long w-bits bits)
       (by (holds es m (wordOf e)) (run-plus w-bits b (suc j) (flipped es e) (flipped-length es e ∙ long) (flipped-bits es e bits)))
     where
-      by : (x : Bool) → run (pass es m) b (suc j) (plus w (flipped es e)) ≡ endPlus w (run (pass es m) b (suc j) (flipped es e))
-          → follow (pick x (stop (plus w e)) (go (plus w (flipped es e)))) j (run (pass es m) b (suc j)) ≡ endPlus w (follow (pick x (stop e) (go (flipped es e))) j (run (pass es m) b (suc j)))
+      by : (x : Bool) → run (turn es m) b (suc j) (plus w (flipped es e)) ≡ endPlus w (run (turn es m) b (suc j) (flipped es e))
+          → follow (pick x (stop (plus w e)) (go (plus w (flipped es e)))) j (run (turn es m) b (suc j)) ≡ endPlus w (follow (pick x (stop e) (go (flipped es e))) j (run (turn es m) b (suc j)))
       by true next = refl
       by false next = next
 

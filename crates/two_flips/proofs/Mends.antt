@@ -22,7 +22,7 @@ use Rattle.codes.specs.Equations.{bitsOf, checksOf, par, wordOf, Hold}
 use Rattle.runs.specs.Meets.{holds}
 use Rattle.runs.proofs.Parity.{holds-hold, hold-holds}
 use Rattle.matrices.proofs.Edges.{Ranged, par-below}
-use Rattle.bit_flip.specs.Flip.{broken, score, topScore, flipped, pass, passes}
+use Rattle.bit_flip.specs.Flip.{broken, score, topScore, flipped, turn, passes}
 use Rattle.bit_flip.specs.Steps.{Bits}
 use Rattle.bit_flip.proofs.Scores.{sum-ranged, span-bits}
 use Rattle.two_flips.specs.Words.{plus}
@@ -85,13 +85,13 @@ module _ (es : List Edge) (m n : ℕ) (ranged : Ranged m n es) where
   none-left f none = span-ext f (λ v. 0) 0 0 n (λ v l. none (0 + v) (omega arith))
 
   turn-flips : (f g : ℕ → ℕ) (top u : ℕ) → 0 < top → u < n → scoreAt es f u ≡ top → ((v : ℕ) → v < n → scoreAt es f v ≤ top)
-      → ((v : ℕ) → v < n → g v ≡ pick (eqb (scoreAt es f v) top) (1 - f v) (f v)) → pass es m (span f 0 n) ≡ go (span g 0 n)
-  unfolding pass
+      → ((v : ℕ) → v < n → g v ≡ pick (eqb (scoreAt es f v) top) (1 - f v) (f v)) → turn es m (span f 0 n) ≡ go (span g 0 n)
+  unfolding turn
   turn-flips f g top u pos hu at most next = rw (not-held f u (omega arith), flipped-span f g top u hu at most next)
 
   -- the run from such errors: one turn more finds that none is left
-  run-mends : (k : ℕ) (f : ℕ → ℕ) → Mends es n k f → (b j : ℕ) → k < b → run (pass es m) b j (span f 0 n) ≡ end true (j + k) (span (λ v. 0) 0 n)
-  unfolding run pass
+  run-mends : (k : ℕ) (f : ℕ → ℕ) → Mends es n k f → (b j : ℕ) → k < b → run (turn es m) b j (span f 0 n) ≡ end true (j + k) (span (λ v. 0) 0 n)
+  unfolding run turn
   run-mends k f x zero j h = absurd (omega arith)
   run-mends k f (gone none) (suc b) j h =
       let e : j + 0 ≡ j = omega arith in
@@ -101,7 +101,7 @@ module _ (es : List Edge) (m n : ℕ) (ranged : Ranged m n es) where
       rw (turn-flips f g top u pos hu at most next, e) (run-mends k′ g rest b (suc j) (omega arith))
 
   -- and without it none is left either, but that is not found
-  run-spent : (k : ℕ) (f : ℕ → ℕ) → Mends es n k f → (j : ℕ) → run (pass es m) k j (span f 0 n) ≡ end false (j + k) (span (λ v. 0) 0 n)
+  run-spent : (k : ℕ) (f : ℕ → ℕ) → Mends es n k f → (j : ℕ) → run (turn es m) k j (span f 0 n) ≡ end false (j + k) (span (λ v. 0) 0 n)
   unfolding run
   run-spent k f (gone none) j =
       let e : j + 0 ≡ j = omega arith in
@@ -118,7 +118,7 @@ module _ (es : List Edge) (m n : ℕ) (ranged : Ranged m n es) where
         ∙ span-ext (λ v. (wordOf w v + 0) % 2) (wordOf w) 0 0 (length w) (λ v h. omega (arith, bits (0 + v)))
         ∙ span-again 0 w
 
-    ended : (limit : ℕ) (success : Bool) → run (pass es m) limit 0 (span f 0 n) ≡ end success (0 + k) (span (λ v. 0) 0 n)
+    ended : (limit : ℕ) (success : Bool) → run (turn es m) limit 0 (span f 0 n) ≡ end success (0 + k) (span (λ v. 0) 0 n)
         → passes es m limit (plus w (span f 0 n)) ≡ end success k w
     ended limit success ran =
         let e : 0 + k ≡ k = omega arith in

@@ -1,5 +1,5 @@
 use borrow.Author.Needs.{needs}
-use Rattle.codes.specs.Words.{generators}
+use Rattle.tables.specs.Words.{generators}
 use Rattle.encoder.proofs.Known.{known-none, framing}
 use Rattle.encoder.proofs.encode_known.Statement.{statement}
 use Rattle.encoder.proofs.encode_known.Tie as tie

@@ -1,4 +1,4 @@
-use Rattle.codes.specs.Tables.{thetas}
+use Rattle.tables.specs.Tables.{thetas}
 use Rattle.runs.proofs.Filled.{listing}
 use Rattle.runs.proofs.runs_of.Statement.{statement}
 use Rattle.runs.proofs.runs_of.Tie as tie

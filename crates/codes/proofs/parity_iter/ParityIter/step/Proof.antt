@@ -8,7 +8,7 @@ use Rattle.codes.specs.declared.«parity_iter».Block.{Block}
 use Rattle.codes.specs.declared.«parity_iter».ParityIter.{ParityIter}
 use Rattle.codes.specs.declared.CodeParams.{CodeParams}
 use Rattle.codes.specs.declared.«parity_iter».Block.the-variants.{Permutation}
-use Rattle.codes.specs.Tables.{thetas}
+use Rattle.tables.specs.Tables.{thetas}
 use Rattle.codes.specs.Codes.{made, phiOf, maxBlock}
 use Rattle.codes.specs.Blocks.{byteAt, blockOf, blockAt}
 use Rattle.codes.specs.Edges.{permutationColumn, columnOf}

@@ -267,8 +267,10 @@ pub const TM_R45_H: [[[u8; 11]; 4]; 3] = [
     ],
 ];
 
-// By prototype, layer, row, column.
-pub const PROTOTYPES: [[[[u8; 11]; 4]; 3]; 6] = [
+// How many prototypes there are; by prototype, layer, row, column.
+pub const PROTOTYPE_TABLES: usize = 6;
+
+pub const PROTOTYPES: [[[[u8; 11]; 4]; 3]; PROTOTYPE_TABLES] = [
     TC128_H,
     TC256_H,
     TC512_H,
@@ -651,5 +653,7 @@ pub const PHI_J_K_M512: [[u16; 26]; 4] = [
     ],
 ];
 
-// By block size, quarter, permutation.
-pub const PHI_J_K: [[[u16; 26]; 4]; 3] = [PHI_J_K_M128, PHI_J_K_M256, PHI_J_K_M512];
+// How many tables phi there are; by block size, quarter, permutation.
+pub const PHI_TABLES: usize = 3;
+
+pub const PHI_J_K: [[[u16; 26]; 4]; PHI_TABLES] = [PHI_J_K_M128, PHI_J_K_M256, PHI_J_K_M512];
