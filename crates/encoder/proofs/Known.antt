@@ -1,7 +1,7 @@
 -- The sizes of the codes' frames, and a frame of parity bits that is the code's. Assumes nothing.
 use mathlib.Core.List.{List, [], _++_, append-nil}
 use mathlib.Core.Path.{_≡_, refl, sym, ap, ap₂, _∙_}
-use Prim.Native.Nat.{ℕ, zero, suc, _+_, _-_, _*_, _/_, _%_, _≤_, _<_}
+use Prim.Native.Nat.{ℕ, _+_, _-_, _*_, _/_, _%_, _≤_, _<_}
 use native.Mathlib.Omega.{arith}
 use borrow.Author.Needs.{needs}
 use lib.Dec.{leb, leb→le}
@@ -58,18 +58,6 @@ placed-frame code h s e =
   where
     same : (i : ℕ) → i < rowOf code .k → bitAt s i ≡ bitAt (take (rowOf code .k / 8) s) i
     same i l = sym (bitAt-take (rowOf code .k / 8) s i (omega (arith, roomy code h .data-bytes)))
-
--- a code that is none of those below n, as the last arm of a match says it
-abbrev NoneOf : ℕ → ℕ → Type 0
-NoneOf code zero = Unit
-NoneOf code (suc n) = NoneOf code n × (code ≡ n → ⊥)
-
-none-below : (code n : ℕ) → NoneOf code n → n ≤ code
-none-below code zero r = omega arith
-none-below code (suc n) (r, other) = omega (arith, none-below code n r)
-
-pub known-none : (code n : ℕ) (row : CodeParams) → Accepted code row n → NoneOf code codes → ⊥
-known-none code n row a none = omega (arith, a .known, none-below code codes none)
 
 pub known-low : (code n : ℕ) (row : CodeParams) → Accepted code row n → row .k ≤ row .n
 known-low code n row a = rw (a .is-row) (roomy code (a .known) .k-low)

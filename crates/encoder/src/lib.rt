@@ -3,7 +3,7 @@ ghost use mathlib.Core.Path.{_≡_};
 ghost use mathlib.Core.List.{_++_};
 ghost use Prim.Native.Nat.{_/_, _≤_};
 ghost use lib.ListN.{length, take, drop};
-ghost use Rattle.codes.specs.Codes.{rowOf};
+ghost use Rattle.codes.specs.Codes.{tcCodes, rowOf};
 ghost use Rattle.codes.specs.Frames.{encodedBytes};
 ghost use Rattle.encoder.specs.Outcomes.{encoded, encodeOutcome, copyEncodeOutcome};
 ghost use Rattle.encoder.specs.Sizes.{Accepted};
@@ -27,6 +27,35 @@ use tables::compact_generators::TM2048_G;
 use tables::compact_generators::TM5120_G;
 
 // A constant has no memory of its own: the generator is a local, made once for a call and lent. A temporary in its place costs TC128 40 %.
+fn encode_tm(code: usize, row: CodeParams, codeword: &mut [u8])
+    requires { ⌜ Accepted code row (length (now codeword)) × (tcCodes ≤ code) ⌝ }
+    ensures { λ _. ⌜ now (codeword .exit) ≡ encodedBytes code (take (rowOf code .k / 8) (now (codeword .entry))) ⌝ }
+{
+    let k = row.k;
+    let r = row.n - row.k;
+    let b = row.circulant_size;
+    match code {
+        3 => {
+            let g = TM1280_G;
+            encode_parity(codeword, &g, k, r, b)
+        }
+        4 => {
+            let g = TM1536_G;
+            encode_parity(codeword, &g, k, r, b)
+        }
+        5 => {
+            let g = TM2048_G;
+            encode_parity(codeword, &g, k, r, b)
+        }
+        6 => {
+            let g = TM5120_G;
+            encode_parity(codeword, &g, k, r, b)
+        }
+        _ => {}
+    }
+}
+
+// The TC codes, and by another function the TM codes.
 fn encode_known(code: usize, row: CodeParams, codeword: &mut [u8])
     requires { ⌜ Accepted code row (length (now codeword)) ⌝ }
     ensures { λ _. ⌜ now (codeword .exit) ≡ encodedBytes code (take (rowOf code .k / 8) (now (codeword .entry))) ⌝ }
@@ -47,23 +76,7 @@ fn encode_known(code: usize, row: CodeParams, codeword: &mut [u8])
             let g = TC512_G;
             encode_parity(codeword, &g, k, r, b)
         }
-        3 => {
-            let g = TM1280_G;
-            encode_parity(codeword, &g, k, r, b)
-        }
-        4 => {
-            let g = TM1536_G;
-            encode_parity(codeword, &g, k, r, b)
-        }
-        5 => {
-            let g = TM2048_G;
-            encode_parity(codeword, &g, k, r, b)
-        }
-        6 => {
-            let g = TM5120_G;
-            encode_parity(codeword, &g, k, r, b)
-        }
-        _ => {}
+        _ => encode_tm(code, row, codeword),
     }
 }
 

@@ -1,6 +1,6 @@
 use borrow.Author.Needs.{needs}
 use Rattle.tables.specs.Words.{generators}
-use Rattle.encoder.proofs.Known.{known-none, framing}
+use Rattle.encoder.proofs.Known.{framing}
 use Rattle.encoder.proofs.encode_known.Statement.{statement}
 use Rattle.encoder.proofs.encode_known.Tie as tie
 
@@ -10,32 +10,11 @@ encode-known-spec =
     tie.close
     (tie.spec
     (λ c. search framing)
-    (λ c. search needs)
+    (λ c. search needs) (λ c κs. search framing)
+    (λ c. search needs) (λ c κs. search framing)
+    (λ c. search needs) (λ c κs. search framing)
     (λ c κs. search framing)
-    (λ c. search needs)
-    (λ c κs. search framing)
-    (λ c. search needs)
-    (λ c κs. search framing)
-    (λ c. search needs)
-    (λ c κs. search framing)
-    (λ c. search needs)
-    (λ c κs. search framing)
-    (λ c. search needs)
-    (λ c κs. search framing)
-    (λ c. search needs)
-    (λ c κs. search framing)
-    (λ c. search needs)
-    (λ c. search framing)
-    (λ c. search needs)
-    (λ c. search framing)
-    (λ c. search needs)
-    (λ c. search framing)
-    (λ c. search needs)
-    (λ c. search framing)
-    (λ c. search needs)
-    (λ c. search framing)
-    (λ c. search needs)
-    (λ c. search framing)
-    (λ c. search needs)
-    (λ c. search framing)
-    (λ c. absurd (search known-none)))
+    (λ c. search needs) (λ c. search framing)
+    (λ c. search needs) (λ c. search framing)
+    (λ c. search needs) (λ c. search framing)
+    (λ c. search needs) (λ c. search needs))

@@ -1,0 +1,22 @@
+use native.Mathlib.Omega.{arith}
+use borrow.Author.Needs.{needs}
+use Rattle.tables.specs.Words.{generators}
+use Rattle.encoder.proofs.Known.{framing}
+use Rattle.encoder.proofs.encode_tm.Statement.{statement}
+use Rattle.encoder.proofs.encode_tm.Tie as tie
+
+pub encode-tm-spec : {M : Type 1} → statement M
+unfolding generators
+encode-tm-spec =
+    tie.close
+    (tie.spec
+    (λ c. search framing)
+    (λ c. search needs) (λ c κs. search framing)
+    (λ c. search needs) (λ c κs. search framing)
+    (λ c. search needs) (λ c κs. search framing)
+    (λ c. search needs) (λ c κs. search framing)
+    (λ c. search needs) (λ c. search framing)
+    (λ c. search needs) (λ c. search framing)
+    (λ c. search needs) (λ c. search framing)
+    (λ c. search needs) (λ c. search framing)
+    (λ c. absurd (omega arith)))
