@@ -8,15 +8,16 @@ use borrow.Author.Count.{below-more}
 use borrow.Author.Needs.{needs}
 use borrow.Author.Tests.{lt-ltb, le-ltb, eq-eqb, ne-eqb}
 use lib.IntN.{ℤ, pos, negsuc, _-ℤ_}
-use lib.ListN.{length, getD, set, length-map, length-set, List·getD-map}
+use lib.ListN.{length, getD, set, length-map, List·getD-map}
 use lib.Signed.{mag}
 use lib.Seq.{ext-getD}
 use mir.Syntax.{w8, w16}
 use mir.Val.{SFits, hbits, toZ, ofZ}
 use mir.Facts.{toZ-ofZ}
-use Rattle.maths.specs.Lists.{span, overwrite}
+use Rattle.maths.specs.Lists.{span}
 use Rattle.maths.proofs.Lists.{span-length}
-use Rattle.maths.proofs.Slices.{span-get, overwrite-none, overwrite-more, overwrite-all}
+use Rattle.maths.proofs.Slices.{span-get}
+use Rattle.maths.proofs.Writing.{Written, written-none, written-more, written-all}
 use Rattle.min_sum.proofs.Signed.{back}
 use Rattle.replay.specs.Agreement.{Agrees, signed, softened}
 use Rattle.replay.proofs.Agreeing.{denies}
@@ -55,31 +56,23 @@ module _ (bytes : List ℕ) where
 
 -- ---- bytes are read as confidences: the first i places are written
 pub record Softening (bytes : List ℕ) (soft₀ : List ℤ) (i : ℕ) (soft : List ℤ) : Type 0 where
-  pub low : i ≤ length bytes
   pub same : length soft₀ ≡ length bytes
-  pub long : length soft ≡ length soft₀
-  pub front : soft ≡ overwrite (signedAt bytes) i soft₀
+  pub written : Written (signedAt bytes) soft₀ i soft
 
 module _ (bytes : List ℕ) (soft₀ : List ℤ) where
   pub soften-not : (length soft₀ ≡ length bytes → ⊥) → soft₀ ≡ softened bytes soft₀
   soften-not n = rw (ne-eqb (length soft₀) (length bytes) n)
 
   pub soften-begins : length soft₀ ≡ length bytes → Softening bytes soft₀ 0 soft₀
-  soften-begins e = record { low = omega arith; same = e; long = refl; front = overwrite-none (signedAt bytes) soft₀ }
+  soften-begins e = record { same = e; written = written-none }
 
   module _ (i : ℕ) (soft : List ℤ) (r : Softening bytes soft₀ i soft) where
     pub soften-more : (x : ℤ) → x ≡ signedAt bytes i → mag x < 2 ^ hbits w8 → i < length bytes → Softening bytes soft₀ (i + 1) (set soft i (toZ w8 (ofZ w8 x)))
-    soften-more x e f h =
-        record {
-          low = omega arith;
-          same = r .same;
-          long = length-set soft i (toZ w8 (ofZ w8 x)) ∙ r .long;
-          front = overwrite-more (signedAt bytes) soft₀ i (r .front) (omega (arith, r .same)) (back w8 x f ∙ e);
-        }
+    soften-more x e f h = record { same = r .same; written = written-more (r .written) h (sym (r .same)) (back w8 x f ∙ e) }
 
     pub soften-ends : length bytes ≤ i → soft ≡ softened bytes soft₀
     soften-ends h =
-        overwrite-all (signedAt bytes) soft₀ i (r .front) (omega (arith, r .low, r .same)) (omega (arith, r .low, r .same))
+        written-all (r .written) h (sym (r .same))
         ∙ rw (eq-eqb (length soft₀) (length bytes) (r .same)) (mapped bytes _ (r .same))
 
 -- ---- confidences are compared with bytes: the first i are the same
