@@ -1,4 +1,5 @@
 -- One outcome for each input: any two that the promise of a public function allows coincide. Assumes nothing.
+use mathlib.Core.Bool.{Bool}
 use mathlib.Core.List.{List}
 use mathlib.Core.Path.{_≡_, sym, ap, _∙_}
 use Prim.Native.Nat.{ℕ, _<_}
@@ -12,7 +13,9 @@ use Rattle.runs.specs.Runs.{Run, run, readRuns}
 use Rattle.report.specs.declared.Report.{Report}
 use Rattle.encoder.specs.Outcomes.{Encoded, encoded, encodeOutcome, copyEncodeOutcome}
 use Rattle.bit_flip.specs.Outcome as flip
+use Rattle.min_sum.specs.declared.layout.Layout.{Layout}
 use Rattle.min_sum.specs.Confidence.{i8}
+use Rattle.min_sum.specs.Working.{buffers, Exchanged, exchange, exchanged}
 use Rattle.min_sum.specs.Outcomes.{Outcome, left, decodeOutcome, Written, written, toLlrsOutcome, toHardOutcome}
 use Rattle.labrador_ldpc.specs.Doors.{Row, row, paramsOutcome, Hard, hard, hardDoor, Soft, soft, softDoor}
 use Rattle.sheet_text.specs.declared.read.Reading.{Reading}
@@ -60,7 +63,14 @@ decode-bf-one code input output working limit p q =
     let e = one p q in
     (ap (λ (x : flip.Outcome). x .report) e, ap (λ (x : flip.Outcome). x .output) e, ap (λ (x : flip.Outcome). x .working) e)
 
--- ---- min_sum: the report, the output and both working buffers; the answer and the buffer that is written
+-- ---- min_sum: the answer and both buffers of the messages; the report, the output and both working buffers; the answer and the buffer that is written
+pub exchange-one : (at : Layout) (rs : List Run) (w : List ℤ) (marks : List ℕ) {b b′ : Bool} {v v′ : List ℤ} {s s′ : List ℕ}
+    → exchange b (buffers v s) ≡ exchanged i8 at rs (buffers w marks) → exchange b′ (buffers v′ s′) ≡ exchanged i8 at rs (buffers w marks)
+    → (b ≡ b′) × (v ≡ v′) × (s ≡ s′)
+exchange-one at rs w marks p q =
+    let e = one p q in
+    (ap (λ (x : Exchanged ℤ). x .even) e, ap (λ (x : Exchanged ℤ). x .left .working) e, ap (λ (x : Exchanged ℤ). x .left .marks) e)
+
 pub decode-ms-i8-one : (code : ℕ) (llrs : List ℤ) (output : List ℕ) (working : List ℤ) (signs : List ℕ) (limit : ℕ)
     {r r′ : Report} {o o′ : List ℕ} {w w′ : List ℤ} {s s′ : List ℕ}
     → left r o w s ≡ decodeOutcome i8 code llrs output working signs limit → left r′ o′ w′ s′ ≡ decodeOutcome i8 code llrs output working signs limit

@@ -7,12 +7,11 @@ use native.Mathlib.Omega.{arith}
 use lib.Dec.{T, ltb, leb, eqb, ltb→lt, leb→le}
 use lib.ListN.{length, getD, List·getD-eq-default}
 use borrow.Author.Tests.{ltb-true, ltb-false}
-use Rattle.maths.specs.Tests.{pick, both, all, below}
-use Rattle.maths.proofs.Tests.{both-left, both-right, all-anywhere, below-at, below-eq}
+use Rattle.maths.specs.Tests.{pick, all, below}
+use Rattle.maths.proofs.Tests.{all-anywhere, below-at, below-eq}
 use Rattle.maths.proofs.Lists.{span-length, flatMap-length}
 use Rattle.codes.specs.declared.CodeParams.{CodeParams}
 use Rattle.codes.specs.declared.ParamsAnswer.{ParamsAnswer}
-use Rattle.codes.specs.declared.MatrixTables.{MatrixTables}
 use Rattle.codes.specs.declared.«parity_iter».Block.{Block}
 use Rattle.codes.specs.declared.«parity_iter».Block.the-variants.{Ends, Empty, Identity, Permutation}
 use Rattle.tables.specs.Choice.{listed}

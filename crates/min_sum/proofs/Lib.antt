@@ -1,6 +1,8 @@
 pub mod Signed
+pub mod Checked
 pub mod Held
 pub mod Links
+pub mod Over
 pub mod Parity
 pub mod Pass
 pub mod Answers
@@ -12,4 +14,6 @@ pub mod Success
 pub mod Leaves
 pub mod Loops
 pub mod Stores
+pub mod Fitting
+pub mod Exchange
 pub mod HardBits

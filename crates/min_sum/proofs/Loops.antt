@@ -26,9 +26,9 @@ use Rattle.runs.specs.Runs.{run, runEdges, readRuns}
 use Rattle.runs.specs.declared.EdgeRun.{EdgeRun}
 use Rattle.min_sum.specs.declared.layout.Layout.{Layout}
 use Rattle.min_sum.specs.Confidence.{Confidence}
-use Rattle.min_sum.specs.MinSum.{Link, link, numbered, addMessage, turn}
+use Rattle.min_sum.specs.MinSum.{Link, link, numbered, turn}
 use Rattle.min_sum.specs.Hard.{toLlrs}
-use Rattle.min_sum.specs.Working.{linkAt, runLinks, held, heldChecked, takeChecked, Sized, Inside, Rest}
+use Rattle.min_sum.specs.Working.{linkAt, runLinks, buffers, addAt, takeAt, held, Room, Inside, Rest, Sized}
 use Rattle.min_sum.proofs.Signed.{back}
 use Rattle.runs.proofs.Sweep.{read-length}
 use Rattle.min_sum.proofs.Links.{inside-one, turn-inside, turn-rest, turn-fold, end-fold}
@@ -46,8 +46,8 @@ module _ {S : Type 0} {step : Link → S → S} {e a v size : ℕ} where
   run-begins = record { low = omega arith; long = refl; marks = refl; folded = rw (sub-zero size) }
 
   module _ {i n₀ m₀ n m : ℕ} {s₀ s : S} (r : Running step e a v size i n₀ m₀ n m s₀ s) where
-    pub run-sized : {l : Layout} → Sized l n₀ m₀ → Sized l n m
-    run-sized z = rw (r .long, r .marks) z
+    pub run-room : {l : Layout} → Room l n₀ m₀ → Room l n m
+    run-room z = rw (r .long, r .marks) z
 
     pub run-again : {n′ m′ : ℕ} {s′ : S} → i < size → n′ ≡ n → m′ ≡ m → s′ ≡ step (link (e + i) (a + i) (v + i)) s → Running step e a v size (i + 1) n₀ m₀ n′ m′ s₀ s′
     run-again h p q t = record { low = omega arith; long = p ∙ r .long; marks = q ∙ r .marks; folded = span-turn step (linkAt e a v) size i s (r .folded) h t }
@@ -71,8 +71,8 @@ module _ {S : Type 0} {step : Link → S → S} {l : Layout} {ns : List ℕ} whe
   pass-begins p = record { low = omega arith; long = refl; marks = refl; rest = p; folded = refl }
 
   module _ {e i n₀ m₀ n m : ℕ} {s₀ s : S} (p : Passing step l ns e i n₀ m₀ n m s₀ s) where
-    pub pass-sized : Sized l n₀ m₀ → Sized l n m
-    pass-sized z = rw (p .long, p .marks) z
+    pub pass-room : Room l n₀ m₀ → Room l n m
+    pass-room z = rw (p .long, p .marks) z
 
     pub pass-ends : length ns / 3 ≤ i → s ≡ fold step (numbered 0 (flatMap runEdges (readRuns ns))) s₀
     pass-ends h = end-fold step (readRuns ns) i e s (p .folded) (omega (arith, read-length ns))
@@ -84,8 +84,8 @@ module _ {S : Type 0} {step : Link → S → S} {l : Layout} {ns : List ℕ} whe
       pub pass-inside : Inside l e a v z
       pass-inside = turn-inside l (readRuns ns) i e (p .rest) there t
 
-      pub pass-fits : Sized l n₀ m₀ → n₀ < 2 ^ 64 → Fits w64 (e + z)
-      pass-fits d h = record { fits = omega (arith, pass-inside .numbers, d .working) }
+      pub pass-fits : Room l n₀ m₀ → n₀ < 2 ^ 64 → Fits w64 (e + z)
+      pass-fits d h = record { fits = omega (arith, pass-inside .numbers, d .messages) }
 
     pub pass-again : {a v z n′ m′ : ℕ} {s′ : S} → s′ ≡ fold step (runLinks e a v z) s → run a v z ≡ getD (readRuns ns) i (run 0 0 0) → i < length ns / 3 → n′ ≡ n → m′ ≡ m
         → Passing step l ns (e + z) (i + 1) n₀ m₀ n′ m′ s₀ s′
@@ -171,25 +171,24 @@ kept-by p q = p ∙ q
 module _ {C : Type 0} (o : Confidence C) where
   abbrev pub AddRun : List C → List ℕ → Layout → ℕ → EdgeRun → ℕ → ℕ → List C → ℕ → Type 0
   AddRun w₀ marks l e r i₀ size w i =
-      Running (addMessage o) e (r .check .0) (r .bit .0) (r .size) i (length w₀) (length marks) (length w) (length marks) (held l w₀ marks) (held l w marks)
+      Running (addAt o l marks) e (r .check .0) (r .bit .0) (r .size) i (length w₀) (length marks) (length w) (length marks) w₀ w
 
   abbrev pub TakeRun : List C → List ℕ → Layout → ℕ → EdgeRun → ℕ → ℕ → List C → List ℕ → ℕ → Type 0
   TakeRun w₀ marks₀ l e r i₀ size w marks i =
-      Running (takeChecked o) e (r .check .0) (r .bit .0) (r .size) i (length w₀) (length marks₀) (length w) (length marks) (heldChecked l w₀ marks₀) (heldChecked l w marks)
+      Running (takeAt o l) e (r .check .0) (r .bit .0) (r .size) i (length w₀) (length marks₀) (length w) (length marks) (buffers w₀ marks₀) (buffers w marks)
 
   abbrev pub AddRuns : List C → List ℕ → Layout → List ℕ → ℕ → ℕ → ℕ → List C → ℕ → ℕ → Type 0
-  AddRuns w₀ marks l runs n e₀ i₀ w e i = Passing (addMessage o) l runs e i (length w₀) (length marks) (length w) (length marks) (held l w₀ marks) (held l w marks)
+  AddRuns w₀ marks l runs n e₀ i₀ w e i = Passing (addAt o l marks) l runs e i (length w₀) (length marks) (length w) (length marks) w₀ w
 
   abbrev pub TakeRuns : List C → List ℕ → Layout → List ℕ → ℕ → ℕ → ℕ → List C → List ℕ → ℕ → ℕ → Type 0
   TakeRuns w₀ marks₀ l runs n e₀ i₀ w marks e i =
-      Passing (takeChecked o) l runs e i (length w₀) (length marks₀) (length w) (length marks) (heldChecked l w₀ marks₀) (heldChecked l w marks)
+      Passing (takeAt o l) l runs e i (length w₀) (length marks₀) (length w) (length marks) (buffers w₀ marks₀) (buffers w marks)
 
   abbrev pub Passes : List C → List ℕ → List C → Layout → List ℕ → ℕ → ℕ → List C → List ℕ → ℕ → Type 0
   Passes w₀ marks₀ llrs l runs limit pass₀ w marks pass =
       Trying (turn o (flatMap runEdges (readRuns runs)) (l .checks) (l .bits - length llrs) llrs) limit pass (length w₀) (length marks₀) (length w) (length marks) (held l w₀ marks₀) (held l w marks)
 
-pub ruleset loops =
-    (run-begins, run-sized, run-inside, run-again, run-ends, pass-begins, pass-sized, pass-inside, pass-fits, pass-again, pass-ends, needs)
+pub ruleset loops = (run-begins, run-room, run-inside, run-again, run-ends, pass-begins, pass-room, pass-inside, pass-fits, pass-again, pass-ends, needs)
 
 pub ruleset unpacks = (unpacked-none, unpacked-asks, unpacked-in, unpacked-more, unpacked, read-is, needs)
 

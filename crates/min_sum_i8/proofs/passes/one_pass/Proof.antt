@@ -6,4 +6,4 @@ pub one-pass-spec : {M : Type 1} → statement M
 one-pass-spec =
     tie.close
     (tie.spec
-    (λ c κs. (search passes, search passes)) (λ c κs. (search passes, search passes)) (λ c κs. search passes) (λ c κs. (search passes, search passes)) (λ c κs. search passes) (λ c. search passes) (λ c. search passes) (λ c. search passes))
+    (λ c κs. (search passes, search passes)) (λ c κs. search passes) (λ c. search passes) (λ c. search passes) (λ c. search passes))

@@ -2,8 +2,8 @@ use borrow.Author.Needs.{needs}
 use native.Mathlib.Omega.{arith}
 use lib.ListN.{length-set}
 use Rattle.min_sum.proofs.Stores.{take-stored}
-use Rattle.min_sum_i8.proofs.passes.take_message.Statement.{statement}
-use Rattle.min_sum_i8.proofs.passes.take_message.Tie as tie
+use Rattle.messages_i8.proofs.take_message.Statement.{statement}
+use Rattle.messages_i8.proofs.take_message.Tie as tie
 
 pub take-message-spec : {M : Type 1} → statement M
 take-message-spec =

@@ -2,8 +2,8 @@ use borrow.Author.Needs.{needs}
 use native.Mathlib.Omega.{arith}
 use lib.ListN.{length-set}
 use Rattle.min_sum.proofs.Stores.{add-stored}
-use Rattle.min_sum_i8.proofs.passes.add_message.Statement.{statement}
-use Rattle.min_sum_i8.proofs.passes.add_message.Tie as tie
+use Rattle.messages_i8.proofs.add_message.Statement.{statement}
+use Rattle.messages_i8.proofs.add_message.Tie as tie
 
 pub add-message-spec : {M : Type 1} → statement M
 add-message-spec =
