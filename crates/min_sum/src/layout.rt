@@ -75,7 +75,7 @@ struct Looked {
     size: usize,
 }
 
-// Run number i of a list.
+// What is found of run number i of a list.
 fn look_at(triples: &[u16], i: usize, at: Layout) -> Looked
     requires { ⌜ i < length (now triples) / 3 ⌝ }
     ensures { λ r. ⌜ LookedAt at (getD (readRuns (now (triples .entry))) i (run 0 0 0)) (r .within) (r .size) ⌝ }
@@ -90,7 +90,7 @@ fn look_at(triples: &[u16], i: usize, at: Layout) -> Looked
 }
 
 // Whether runs, not more than any code has, lie within a layout and are all its edges. Every run is looked at: that is quicker than to stop.
-pub fn make_up(triples: &[u16], at: Layout) -> bool
+fn make_up(triples: &[u16], at: Layout) -> bool
     ensures { λ r. ⌜ r ≡ makeUp at (readRuns (now (triples .entry))) ⌝ }
 {
     let n = triples.len() / 3;

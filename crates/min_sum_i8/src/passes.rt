@@ -1,4 +1,4 @@
-// Min-sum: passes over the edges, run by run.
+// Min-sum: the passes.
 ghost use mathlib.Core.Path.{_≡_};
 ghost use mathlib.Core.List.{List, flatMap};
 ghost use Prim.Native.Nat.{ℕ, _-_, _≤_};
