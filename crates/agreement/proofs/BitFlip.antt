@@ -5,10 +5,10 @@ use mathlib.Core.Path.{_≡_, refl, sym, ap, _∙_, subst}
 use Prim.Native.Nat.{ℕ, _≤_}
 use native.Mathlib.Nat.{add-zero}
 use native.Mathlib.Decide.{ℕ-discrete}
-use native.Mathlib.Omega.{arith}
 use borrow.Author.Tests.{ne-eqb}
 use lib.ListN.{length, replicate}
 use Rattle.maths.specs.Tests.{Anything}
+use Rattle.maths.proofs.Tests.{never}
 use Rattle.maths.specs.Bytes.{Bytes}
 use Rattle.maths.proofs.Bytes.{length-pack, bytes-pack}
 use Rattle.codes.specs.Codes.{TM, rowOf, bitsIn, checksIn}
@@ -44,7 +44,7 @@ module _ (code : ℕ) (b : HardBuffers) (limit : ℕ) where
     where
       by : Dec (bitFlipping .answer code b limit ≡ 0) → bitFlipping .answer code b limit ≡ 0
       by (yes h) = h
-      by (no h) = absurd (let z : _≡_ {A = ℕ} 0 1 = cc (ap (λ (x : Outcome). x .report .success) (refused-is h)) in omega arith)
+      by (no h) = absurd (never (ap (λ (x : Outcome). x .report .success) (refused-is h)) e)
 
   -- the output is bytes, as many as the code has
   module _ (h : bitFlipping .answer code b limit ≡ 0) where

@@ -7,6 +7,7 @@ use native.Mathlib.Omega.{arith}
 use lib.IntN.{pos, negsuc}
 use lib.ListN.{length, getD}
 use Rattle.maths.specs.Tests.{Anything}
+use Rattle.maths.proofs.Tests.{never}
 use Rattle.maths.specs.Bits.{bitAt}
 use Rattle.maths.specs.Bytes.{Bytes}
 use Rattle.maths.specs.Distance.{distance}
@@ -144,7 +145,7 @@ module _ {B : Type 0} {calls : Receiving B} {plain : B → Type 0} {ours : Decod
       let b = c .lend spoilt in
       record {
         refusing = λ number low table. omega (arith, low 0 b 1, table 0 b 1 ∙ spoilt-once);
-        failing = λ d r. let z : _≡_ {A = ℕ} 0 1 = cc (ap (λ (x : Told). x .report .success) (returned (fails d) r 0 (omega arith))) in omega arith;
+        failing = λ d r. never refl (ap (λ (x : Told). x .report .success) (returned (fails d) r 0 (omega arith)));
         one-answer = λ x r. frames-apart (ap (λ (y : Told). y .output) (sym (returned (decodesAlike x) r 0 (omega arith)) ∙ returned (decodesAlike x) r 0xff (omega arith)));
         resting = λ says true-said meets. spoilt-unmet (rw (c .before spoilt) at (meets 0 b 1 (true-said 0 b 1 spoilt-once (omega arith))));
         copying = λ says true-said meets.
@@ -162,9 +163,7 @@ module _ {B : Type 0} {calls : Receiving B} {plain : B → Type 0} {ours : Decod
             let one : n ≡ 1 = same spoilt spoilt-once ∙ c .counts 0 b 1 spoilt-once .spent (c .misses) in
             omega arith;
         never-succeeding = λ d same.
-            let e = as-ours (fails d) same (frame 0) 1 (frame-accepted 0 (omega arith)) ∙ returned ours (c .returns) 0 (omega arith) in
-            let z : _≡_ {A = ℕ} 0 1 = cc (ap (λ (x : Told). x .report .success) e) in
-            omega arith;
+            never refl (ap (λ (x : Told). x .report .success) (as-ours (fails d) same (frame 0) 1 (frame-accepted 0 (omega arith)) ∙ returned ours (c .returns) 0 (omega arith)));
       }
 
 -- ---- one flipped bit, in calls that bring their bits plain
@@ -181,7 +180,7 @@ module _ {B : Type 0} {calls : Receiving B} {ours : Decoder B} (c : Receives cal
   no-idle-corrector : NoIdleCorrector calls plain
   no-idle-corrector =
       record {
-        failing = λ d f. let z : _≡_ {A = ℕ} 0 1 = cc (ap (λ (x : Told). x .report .success) (put-right (fails d) f)) in omega arith;
+        failing = λ d f. never refl (ap (λ (x : Told). x .report .success) (put-right (fails d) f));
         copying = λ says f. omega (arith, put-out (copies calls says) damaged f (c .brings damaged (bytes-then 0x80 15 (omega arith))));
         resting = λ says f. omega (arith, put-out (rests calls says) spoilt f (c .before damaged));
         made-up = λ number d f code b limit s tc sent h p e k. ap (λ (x : Told). x .report .iters) (f .one code b limit s tc sent h p e k);

@@ -8,6 +8,7 @@ use native.Mathlib.Omega.{arith}
 use lib.Dec.{eqb}
 use lib.ListN.{length, replicate}
 use Rattle.maths.specs.Tests.{pick, Anything}
+use Rattle.maths.proofs.Tests.{never}
 use Rattle.maths.specs.Bits.{bitAt}
 use Rattle.maths.specs.Bytes.{Bytes}
 use Rattle.maths.specs.Budget.{End}
@@ -85,10 +86,7 @@ module _ {C : Type 0} (o : Confidence C) where
     where
       by : Dec (minSumming o .answer code b limit ≡ 0) → minSumming o .answer code b limit ≡ 0
       by (yes h) = h
-      by (no h) =
-          absurd (let f = decode-refused o code (b .llrs) (b .output) (b .working) (b .signs) limit refl h in
-          let z : _≡_ {A = ℕ} 0 1 = cc (ap (λ (x : Outcome C). x .report .success) f) in
-          omega arith)
+      by (no h) = absurd (never (sym (ap (λ (x : Outcome C). x .report .success) (decode-refused o code (b .llrs) (b .output) (b .working) (b .signs) limit refl h))) e)
 
   pub min-sum-meets : SuccessMeets (minSumming o) (minSum o)
   min-sum-meets code b limit e =

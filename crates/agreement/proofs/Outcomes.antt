@@ -1,10 +1,11 @@
 -- One outcome for each input: any two that the promise of a public function allows coincide. Assumes nothing.
-use mathlib.Core.Bool.{Bool}
+use mathlib.Core.Bool.{Bool, true, false}
 use mathlib.Core.List.{List}
-use mathlib.Core.Path.{_≡_, sym, ap, _∙_}
+use mathlib.Core.Path.{_≡_, refl, sym, ap, _∙_}
 use Prim.Native.Nat.{ℕ, _<_}
 use lib.IntN.{ℤ, pos, negsuc}
 use lib.ListN.{getD}
+use Rattle.maths.specs.Tests.{Agrees}
 use Rattle.codes.specs.declared.«parity_iter».Step.{Step}
 use Rattle.codes.specs.declared.«parity_iter».ParityIter.{ParityIter}
 use Rattle.runs.specs.declared.EdgeRun.{EdgeRun}
@@ -24,6 +25,12 @@ use Rattle.sheet_text.specs.Reading.{readOf, textNumber, readAnswer}
 -- what two outcomes both equal makes them equal: this is the theorem of a function that leaves one thing behind, its answer or a buffer, whose promise is an equation for it
 pub one : {A : Type 0} {x y z : A} → x ≡ z → y ≡ z → x ≡ y
 one p q = p ∙ sym q
+
+-- and of one whose answer tells exactly whether something is so
+pub agrees-one : {P : Type 0} (r s : Bool) → Agrees r P → Agrees s P → r ≡ s
+agrees-one true s a b = sym (b .complete (a .sound refl))
+agrees-one false true a b = a .complete (b .sound refl)
+agrees-one false false a b = refl
 
 -- ---- codes and runs
 pub byte-one : (b : ℕ) {x y : ℕ} → (x ≡ b) × (x < 256) → (y ≡ b) × (y < 256) → x ≡ y

@@ -8,6 +8,7 @@ use native.Mathlib.Omega.{arith}
 use lib.ListN.{length, take}
 use Rattle.maths.specs.Bits.{bitAt}
 use Rattle.maths.specs.Distance.{distance}
+use Rattle.maths.proofs.Tests.{never}
 use Rattle.codes.specs.Codes.{TM, rows, rowOf}
 use Rattle.codes.specs.Frames.{encodedBytes}
 use Rattle.report.specs.declared.Report.{Report}
@@ -92,7 +93,7 @@ pub bit-flip-no-idle-completer : NoIdleCompleter bitFlipping
 unfolding rows
 bit-flip-no-idle-completer =
     record {
-      failing = λ d r. let z : _≡_ {A = ℕ} 0 1 = cc (ap (λ (x : Report). x .success) (completed (fails d) r 0 (omega arith) .0)) in omega arith;
+      failing = λ d r. never refl (ap (λ (x : Report). x .success) (completed (fails d) r 0 (omega arith) .0));
       one-answer = λ x r. omega (arith, first-bit (decodesAlike x) r 0 (omega arith), first-bit (decodesAlike x) r 0xff (omega arith));
       resting = λ says r. omega (arith, first-bit (rests bitFlipping says) r 0 (omega arith));
       copying = λ says r. omega (arith, frame-long 0 (omega arith), completed (copies bitFlipping says) r 0 (omega arith) .1 .long);

@@ -17,7 +17,7 @@ use Rattle.maths.specs.Bits.{bitAt}
 use Rattle.maths.specs.Bytes.{Bytes, pack}
 use Rattle.maths.specs.Lists.{span}
 use Rattle.maths.specs.Budget.{stop, go, End, run}
-use Rattle.maths.proofs.Tests.{pick-both}
+use Rattle.maths.proofs.Tests.{never, pick-both}
 use Rattle.maths.proofs.Lists.{span-length}
 use Rattle.maths.proofs.Slices.{span-whole, span-padded}
 use Rattle.maths.proofs.Bytes.{bitAt-past, length-pack, bitAt-pack, pack-own, pack-again}
@@ -91,7 +91,7 @@ module _ (code : ℕ) (input output working : List ℕ) (limit : ℕ) where
           → pick b (decoded code input limit) (left (refusal (answerOf code input output working)) output working) .report .success ≡ true
           → answerOf code input output working ≡ 0
       by true h e = eqb-true (answerOf code input output working) 0 h
-      by false h e = absurd (let z : _≡_ {A = ℕ} 0 1 = cc in omega arith)
+      by false h e = absurd (never refl e)
 
   module _ (e : answerOf code input output working ≡ 0) where
     accepted-known : Known code

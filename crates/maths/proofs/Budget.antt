@@ -7,6 +7,7 @@ use native.Mathlib.Numerals.{add-one}
 use native.Mathlib.Omega.{arith}
 use Rattle.maths.specs.Tests.{pick}
 use Rattle.maths.specs.Budget.{Turn, stop, go, End, end, follow, run, iterated}
+use Rattle.maths.proofs.Tests.{never}
 
 module _ {S : Type 0} (turn : S → Turn S) where
   -- a loop that runs the turns from number 0 on has the same end as the definition
@@ -39,7 +40,7 @@ module _ {S : Type 0} (turn : S → Turn S) where
   -- what every stop leaves holds of the state of a success
   pub run-success : (P : S → Type 0) → ((s t : S) → turn s ≡ stop t → P t) → (b n : ℕ) (s : S) → run turn b n s .success ≡ true → P (run turn b n s .state)
   unfolding run
-  run-success P h zero n s e = absurd (let z : _≡_ {A = ℕ} 0 1 = cc in omega arith)
+  run-success P h zero n s e = absurd (never refl e)
   run-success P h (suc b) n s e = by (turn s) refl e (λ t f. run-success P h b (suc n) t f)
     where
       by : (x : Turn S) → turn s ≡ x → follow x n (run turn b (suc n)) .success ≡ true

@@ -10,8 +10,12 @@ use native.Mathlib.Omega.{arith}
 use lib.Dec.{T, eqb, eqb→eq, leb}
 use lib.ListN.{length, getD}
 use borrow.Author.Tests.{ne-eqb, le-leb, lt-leb}
-use Rattle.maths.specs.Tests.{pick, both, all, below}
+use Rattle.maths.specs.Tests.{pick, both, all, below, Agrees}
 use Rattle.maths.specs.Lists.{span}
+
+-- no test is false and true
+pub never : {b : Bool} → b ≡ false → b ≡ true → ⊥
+never f t = let z : _≡_ {A = ℕ} 0 1 = cc in omega arith
 
 pub both-left : (a b : Bool) → T (both a b) → T a
 both-left true b t = tt
@@ -31,7 +35,7 @@ both-first false b e = e
 
 pub both-second : (a b : Bool) → both a b ≡ true → b ≡ true
 both-second true b e = e
-both-second false b e = absurd (let z : _≡_ {A = ℕ} 0 1 = cc in omega arith)
+both-second false b e = absurd (never refl e)
 
 pub both-true : (a : Bool) → both a true ≡ a
 both-true true = refl
@@ -40,6 +44,10 @@ both-true false = refl
 pub both-false : (a : Bool) → both a false ≡ false
 both-false true = refl
 both-false false = refl
+
+pub both-assoc : (a b c : Bool) → both (both a b) c ≡ both a (both b c)
+both-assoc true b c = refl
+both-assoc false b c = refl
 
 pub both-swap : (a b c : Bool) → both a (both b c) ≡ both b (both a c)
 both-swap true true c = refl
@@ -54,7 +62,6 @@ eqb-swap x y = go (ℕ-discrete x y)
     go (yes e) = rw e
     go (no e) = ne-eqb x y e ∙ sym (ne-eqb y x (λ q. e (sym q)))
 
--- of the element at an index below the length
 -- n elements from v on, of l
 pub room-none : (v n l : ℕ) → l < n → false ≡ leb (v + n) l
 room-none v n l h = sym (lt-leb (v + n) l (omega arith))
@@ -66,6 +73,7 @@ room-left v n l h = go (decLe v (l - n))
     go (yes q) = le-leb v (l - n) q ∙ sym (le-leb (v + n) l (omega arith))
     go (no q) = lt-leb v (l - n) (omega arith) ∙ sym (lt-leb (v + n) l (omega arith))
 
+-- of the element at an index below the length
 pub all-at : {A : Type 0} (f : A → Bool) (d : A) (xs : List A) → T (all f xs) → (k : ℕ) → k < length xs → T (f (getD xs k d))
 all-at f d [] t k h = absurd (not-suc-le-zero h)
 all-at f d (x ∷ xs) t zero h = both-left (f x) (all f xs) t
@@ -94,7 +102,7 @@ T-true false t = absurd t
 
 pub true-T : (b : Bool) → b ≡ true → T b
 true-T true e = tt
-true-T false e = absurd (let z : _≡_ {A = ℕ} 0 1 = cc in omega arith)
+true-T false e = absurd (never refl e)
 
 pub below-true : (n : ℕ) (f : ℕ → Bool) → below n f ≡ true → (k : ℕ) → k < n → f k ≡ true
 below-true n f e k h = T-true (f k) (below-at n f (true-T (below n f) e) k h)
@@ -108,6 +116,15 @@ pub below-same : (n : ℕ) (f g : ℕ → Bool) → ((k : ℕ) → k < n → f k
 below-same zero f g h = refl
 below-same (suc n) f g h = rw (h n (omega arith), below-same n f g (λ k l. h k (omega arith)))
 
+-- ---- a test that tells exactly whether something is so
+pub denies : {P : Type 0} → (P → ⊥) → Agrees false P
+denies h = record { sound = λ e. absurd (never refl e); complete = λ p. absurd (h p) }
+
+-- of an equal thing
+pub agrees-by : {A : Type 0} {a b d : A} {r : Bool} → a ≡ b → (r ≡ true → a ≡ d) × (a ≡ d → r ≡ true) → Agrees r (b ≡ d)
+agrees-by e g = record { sound = λ h. sym e ∙ g .0 h; complete = λ p. g .1 (e ∙ p) }
+
+-- ---- what a test picks
 -- a property of both is one of the picked
 pub pick-both {ℓ} : {A : Type ℓ} (P : A → Type 0) (t : Bool) (a b : A) → P a → P b → P (pick t a b)
 pick-both P true a b p q = p

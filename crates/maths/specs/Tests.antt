@@ -1,6 +1,7 @@
 -- Tests: choosing by one, joining two, and one that is asked of every element or of every number below a bound; and what is no test at all. Assumes nothing.
 use mathlib.Core.Bool.{Bool, true, false}
 use mathlib.Core.List.{List, [], _∷_}
+use mathlib.Core.Path.{_≡_}
 use Prim.Native.Nat.{ℕ, zero, suc}
 use lib.Dec.{T}
 
@@ -22,6 +23,11 @@ all f (x ∷ xs) = both (f x) (all f xs)
 abbrev pub below : ℕ → (ℕ → Bool) → Bool
 below zero f = true
 below (suc n) f = both (f n) (below n f)
+
+-- a test r tells exactly whether P is so
+pub record Agrees (r : Bool) (P : Type 0) : Type 0 where
+  pub sound : r ≡ true → P
+  pub complete : P → r ≡ true
 
 -- what holds of whatever it is asked of
 abbrev pub Anything : {A : Type 0} → A → Type 0

@@ -12,16 +12,12 @@ use lib.Dec.{leb, eqb}
 use lib.ListN.{length, getD, drop, drop-of-length-le}
 use lib.Seq.{drop-cons}
 use Rattle.maths.specs.Tests.{both, all}
-use Rattle.maths.proofs.Tests.{both-first, both-second, both-true, T-true, true-T}
+use Rattle.maths.proofs.Tests.{both-assoc, both-first, both-second, both-true, T-true, true-T}
 use Rattle.runs.specs.Runs.{Run, run, runEdges, readRuns, within, room}
 use Rattle.runs.proofs.Sweep.{read-length, run-read}
 use Rattle.min_sum.specs.declared.layout.Layout.{Layout}
 use Rattle.min_sum.specs.Working.{makeUp, liesIn, readyFor, LookedAt, Room, Sized, Rest}
 use Rattle.min_sum.proofs.Links.{runs-length}
-
-both-assoc : (a b c : Bool) → both (both a b) c ≡ both a (both b c)
-both-assoc true b c = refl
-both-assoc false b c = refl
 
 pub both-left-true : (a b : Bool) → a ≡ true → b ≡ both a b
 both-left-true a b e = rw e

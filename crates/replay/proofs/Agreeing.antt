@@ -1,63 +1,25 @@
 -- Tests that tell exactly whether what is left is what was recorded. Assumes nothing.
-use mathlib.Core.Bool.{Bool, true, false, not, Bool·beq}
+use mathlib.Core.Bool.{Bool, true, false}
 use mathlib.Core.List.{List}
 use mathlib.Core.Path.{_≡_, refl, sym, ap, _∙_}
 use Prim.Native.Nat.{ℕ, _-_}
-use native.Mathlib.Omega.{arith}
-use borrow.Author.Tests.{not-true, not-false, eqb-true, eq-eqb}
-use lib.Dec.{eqb}
+use borrow.Author.Tests.{not-true, not-false}
 use lib.IntN.{ℤ}
 use lib.ListN.{length, take, replicate}
 use lib.Seq.{take-append-seam}
+use Rattle.maths.specs.Tests.{Agrees}
+use Rattle.maths.proofs.Tests.{never, denies, agrees-by}
 use Rattle.report.specs.declared.Report.{Report}
 use Rattle.report.specs.Report.{Told, told}
-use Rattle.report.proofs.Ending.{is-ending}
 use Rattle.bit_flip.specs.Outcome as flip
 use Rattle.min_sum.specs.Confidence.{i8}
 use Rattle.min_sum.specs.Outcomes as soft
 use Rattle.sheet_text.specs.declared.print.Answer.{Answer}
 use Rattle.sheet_text.specs.Printing.{room, answerOf}
 use Rattle.sheet_text.proofs.Writes.{answers}
-use Rattle.replay.specs.declared.cases.Case.{Case}
-use Rattle.replay.specs.Agreement.{Agrees, softened, Converted, recorded, Compared, bitFlipping, minSum, FlipCompared, SoftCompared}
-
--- no test is false and true
-pub never : {b : Bool} → b ≡ false → b ≡ true → ⊥
-never f t = let z : _≡_ {A = ℕ} 0 1 = cc in omega arith
-
--- a test that fails, and one that tells of an equal thing
-pub denies : {P : Type 0} → (P → ⊥) → Agrees false P
-denies h = record { sound = λ e. absurd (never refl e); complete = λ p. absurd (h p) }
-
-pub agrees-by : {A : Type 0} {a b d : A} {r : Bool} → a ≡ b → (r ≡ true → a ≡ d) × (a ≡ d → r ≡ true) → Agrees r (b ≡ d)
-agrees-by e g = record { sound = λ h. sym e ∙ g .0 h; complete = λ p. g .1 (e ∙ p) }
-
--- a report: its answer is tested, then whether it is a success, then its iterations
-unlike : (a b : Bool) → not (Bool·beq a b) ≡ true → a ≡ b → ⊥
-unlike true true e p = never refl e
-unlike true false e p = never p refl
-unlike false true e p = never refl p
-unlike false false e p = never refl e
-
-alike : (a b : Bool) → not (Bool·beq a b) ≡ false → a ≡ b
-alike true true e = refl
-alike true false e = e
-alike false true e = sym e
-alike false false e = refl
-
-module _ (r : Report) (c : Case) where
-  pub other-answer : (r .answer ≡ 0 → ⊥) → Agrees false (r ≡ recorded c)
-  other-answer h = denies (λ p. h (ap (λ (x : Report). x .answer) p))
-
-  pub other-success : not (Bool·beq (r .success) (c .success)) ≡ true → Agrees false (r ≡ recorded c)
-  other-success h = denies (λ p. unlike (r .success) (c .success) h (ap (λ (x : Report). x .success) p))
-
-  pub iters-tell : r .answer ≡ 0 → not (Bool·beq (r .success) (c .success)) ≡ false → Agrees (eqb (r .iters) (c .iters)) (r ≡ recorded c)
-  iters-tell e f =
-      record {
-        sound = λ h. is-ending r (c .success) (c .iters) e (alike (r .success) (c .success) f) (eqb-true (r .iters) (c .iters) h);
-        complete = λ p. eq-eqb (r .iters) (c .iters) (ap (λ (x : Report). x .iters) p);
-      }
+use Rattle.cases.specs.declared.Case.{Case}
+use Rattle.cases.specs.Cases.{recorded, softened}
+use Rattle.replay.specs.Agreement.{Converted, Compared, bitFlipping, minSum, FlipCompared, SoftCompared}
 
 -- a decoder: its report is tested, then its output
 module _ (c : Case) (want : List ℕ) {r : Report} {o : List ℕ} {x : Told} {b : Bool} (e : told r o ≡ x) (a : Agrees b (r ≡ recorded c)) where
@@ -140,4 +102,4 @@ pub text-agrees : (a : Answer) (text want : List ℕ) (r : Bool) → a ≡ answe
     → (r ≡ true → take (a .len) (a .bytes) ≡ want) × (take (a .len) (a .bytes) ≡ want → r ≡ true) → Agrees r (text ≡ want)
 text-agrees a text want r e g = agrees-by (rw e (take-append-seam text (replicate (room - length text) 0))) g
 
-pub ruleset agreeing = (other-answer, other-success, iters-tell, flip-other, flip-same, soft-other, soft-same, refused, accepted, hard-refused, hard-accepted, text-agrees, not-true, not-false, answers)
+pub ruleset agreeing = (flip-other, flip-same, soft-other, soft-same, refused, accepted, hard-refused, hard-accepted, text-agrees, not-true, not-false, answers)

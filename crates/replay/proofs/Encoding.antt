@@ -6,6 +6,7 @@ use Prim.Native.Nat.{ℕ, _/_}
 use borrow.Author.Needs.{needs}
 use borrow.Author.Tests.{not-true, eq-eqb}
 use lib.ListN.{length, take}
+use Rattle.maths.proofs.Tests.{never, denies}
 use Rattle.codes.specs.Codes.{Known, rowOf}
 use Rattle.codes.specs.Frames.{encodedBytes}
 use Rattle.codes.proofs.Answers.{all-passed, passed-known, passed-length}
@@ -13,7 +14,6 @@ use Rattle.matrices.proofs.Encoded.{encoded-front, encoded-length}
 use Rattle.encoder.specs.Outcomes.{Encoded, encoded, copyTests, encodeOutcome, copyEncodeOutcome}
 use Rattle.encoder.proofs.Answered.{encode-frame}
 use Rattle.replay.specs.Agreement.{EncodeCompared}
-use Rattle.replay.proofs.Agreeing.{never, denies}
 
 module _ (code : ℕ) (m s : List ℕ) where
   abbrev first : Encoded

@@ -1,4 +1,3 @@
-pub mod Confidence
-pub mod Lengths
+pub mod Lent
 pub mod Agreeing
 pub mod Encoding

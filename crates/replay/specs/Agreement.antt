@@ -1,52 +1,18 @@
--- What a case reads and records, and when the library agrees with it. Assumes nothing.
-use mathlib.Core.Bool.{Bool, true}
-use mathlib.Core.List.{List, map}
+-- When the library agrees with what a case records. Assumes nothing.
+use mathlib.Core.Bool.{Bool}
+use mathlib.Core.List.{List}
 use mathlib.Core.Path.{_≡_}
-use Prim.Native.Nat.{ℕ, _-_, _/_, min}
-use lib.Dec.{eqb, ltb}
-use lib.IntN.{ℤ, pos, negsuc}
-use lib.ListN.{length, replicate}
-use Rattle.maths.specs.Tests.{pick}
-use Rattle.codes.specs.declared.CodeParams.{CodeParams}
-use Rattle.report.specs.declared.Report.{Report}
-use Rattle.report.specs.Report.{ending, Told, told}
+use Prim.Native.Nat.{ℕ, min}
+use lib.IntN.{ℤ}
+use lib.ListN.{replicate}
+use Rattle.maths.specs.Tests.{Agrees}
+use Rattle.report.specs.Report.{Told, told}
 use Rattle.encoder.specs.Outcomes.{encoded, encodeOutcome, copyEncodeOutcome}
 use Rattle.bit_flip.specs.Outcome as flip
 use Rattle.min_sum.specs.Confidence.{i8}
 use Rattle.min_sum.specs.Outcomes as soft
-use Rattle.replay.specs.declared.cases.Case.{Case}
-
--- a test r tells exactly whether P is so
-pub record Agrees (r : Bool) (P : Type 0) : Type 0 where
-  pub sound : r ≡ true → P
-  pub complete : P → r ≡ true
-
--- ---- the list
--- how many bytes an operation reads: 1 encoders, 2 bit flipping, 3 min-sum, 4 hard_to_llrs, 5 llrs_to_hard, any other a sheet
-abbrev pub readLen : Case → CodeParams → ℕ
-readLen c row =
-    pick (eqb (c .op) 1) (row .k / 8)
-    (pick (eqb (c .op) 2) (row .n / 8)
-    (pick (eqb (c .op) 3) (row .n)
-    (pick (eqb (c .op) 4) (row .n / 8)
-    (pick (eqb (c .op) 5) (row .n) (c .text)))))
-
--- how many bytes it writes
-abbrev pub writtenLen : Case → CodeParams → ℕ
-writtenLen c row =
-    pick (eqb (c .op) 1) (row .n / 8)
-    (pick (eqb (c .op) 2) (row .«output_len»)
-    (pick (eqb (c .op) 3) (row .«output_len»)
-    (pick (eqb (c .op) 4) (row .n)
-    (pick (eqb (c .op) 5) (row .n / 8) (c .answer)))))
-
--- the confidence that a byte stands for: the number from -128 to 127 that is the byte modulo 256
-unfoldable pub signed : ℕ → ℤ
-signed x = pick (ltb x 128) (pos x) (negsuc (255 - x))
-
--- confidences after they are read from bytes: those of another length stay as they are
-abbrev pub softened : List ℕ → List ℤ → List ℤ
-softened bytes soft = pick (eqb (length soft) (length bytes)) (map signed bytes) soft
+use Rattle.cases.specs.declared.Case.{Case}
+use Rattle.cases.specs.Cases.{recorded, softened}
 
 -- the part of a buffer that is lent: n times one value, and no more than the buffer has
 abbrev pub lent : {A : Type 0} → ℕ → A → ℕ → List A
@@ -69,10 +35,6 @@ pub record Converted {A : Type 0} (x : soft.Written A) (want : List A) (r : Bool
   pub left : buffer ≡ x .buffer
 
 -- ---- the decoders
--- the report that a case records: accepted, a success or not, and so many iterations
-abbrev pub recorded : Case → Report
-recorded c = ending (c .success) (c .iters)
-
 -- a test tells exactly whether what is compared is what the case records, and the output is what was compared
 pub record Compared (c : Case) (want : List ℕ) (x : Told) (r : Bool) (output : List ℕ) : Type 0 where
   pub agrees : Agrees r (x ≡ told (recorded c) want)

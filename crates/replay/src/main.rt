@@ -1,20 +1,19 @@
 // Runs a list of the Rust's answers and compares every answer and byte. tools/rust-answers makes the list, data/cases;
 // compare/src/bin/record.rs says how a case is written.
-mod cases;
+mod list;
 mod operations;
-mod soft;
 
 use cases::Case;
-use cases::filled;
-use cases::head;
-use cases::least;
 use cases::read_len;
-use cases::wide;
 use cases::written_len;
 use codes::CodeParams;
 use codes::MAX_SENT;
 use codes::params;
 use libc::STDOUT_FILENO;
+use list::filled;
+use list::head;
+use list::least;
+use list::wide;
 use operations::answers;
 use operations::bit_flipping;
 use operations::encoders;

@@ -3,23 +3,25 @@ ghost use mathlib.Core.List.{map};
 ghost use mathlib.Core.Path.{_≡_};
 ghost use lib.IntN.{pos, negsuc};
 ghost use lib.ListN.{length};
+ghost use Rattle.maths.specs.Tests.{Agrees};
 ghost use Rattle.codes.specs.Codes.{maxBits, maxSent, maxSigns, maxSoftWorking};
 ghost use Rattle.min_sum.specs.Confidence.{i8};
 ghost use Rattle.bit_flip.specs.Outcome.{toldFlip};
 ghost use Rattle.min_sum.specs.Outcomes.{toldSoft, written, toLlrsOutcome, toHardOutcome};
 ghost use Rattle.sheet.specs.Sheet.{sheetOf};
-ghost use Rattle.replay.specs.Agreement.{Agrees, EncodeCompared, Converted, Compared, FlipCompared, SoftCompared, recorded, bitFlipping, minSum, signed, softened, lent};
-use crate::cases::Case;
-use crate::cases::least;
-use crate::soft::same_soft;
-use crate::soft::soften;
+ghost use Rattle.cases.specs.Cases.{signed, softened};
+ghost use Rattle.replay.specs.Agreement.{EncodeCompared, Converted, Compared, FlipCompared, SoftCompared, bitFlipping, minSum, lent};
+use crate::list::least;
+use cases::Case;
+use cases::reported;
+use cases::soft::same_soft;
+use cases::soft::soften;
 use codes::ACCEPTED;
 use codes::CodeParams;
 use codes::MAX_BITS;
 use codes::MAX_SENT;
 use codes::MAX_SIGNS;
 use codes::MAX_SOFT_WORKING;
-use report::Report;
 
 // Both encoders: the data copied in, then the frame encoded once more in place.
 pub(crate) fn encoders(c: Case, data: &[u8], want: &[u8], word: &mut [u8]) -> bool
@@ -35,18 +37,6 @@ pub(crate) fn encoders(c: Case, data: &[u8], want: &[u8], word: &mut [u8]) -> bo
         return false;
     }
     check::same(word, want)
-}
-
-fn reported(r: Report, c: Case) -> bool
-    ensures { λ ok. ⌜ Agrees ok (r ≡ recorded c) ⌝ }
-{
-    if r.answer != ACCEPTED {
-        return false;
-    }
-    if r.success != c.success {
-        return false;
-    }
-    r.iters == c.iters
 }
 
 fn bit_flipping_on(c: Case, read: &[u8], want: &[u8], output: &mut [u8], working: &mut [u8]) -> bool

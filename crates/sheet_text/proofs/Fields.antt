@@ -9,6 +9,7 @@ use lib.Dec.{ltb, eqb}
 use lib.ListN.{length, take, drop, length-append}
 use lib.Seq.{drop-append-seam, take-append-seam}
 use Rattle.maths.specs.Tests.{pick, both, all}
+use Rattle.maths.proofs.Tests.{never}
 use Rattle.sheet_values.specs.declared.Op.{Op}
 use Rattle.sheet_values.specs.Values.{begins}
 use Rattle.sheet_values.proofs.Words.{begins-word, word-begins}
@@ -38,7 +39,7 @@ line-length (b ∷ v) rest e = go (eqb b newline) e (line-length v rest)
   where
     go : (x : Bool) → both (pick x false true) (all plain v) ≡ true → (all plain v ≡ true → lineEnd (v ++ newline ∷ rest) ≡ length v)
         → pick x 0 (suc (lineEnd (v ++ newline ∷ rest))) ≡ suc (length v)
-    go true e ih = absurd (let z : _≡_ {A = ℕ} 0 1 = cc in omega arith)
+    go true e ih = absurd (never refl e)
     go false e ih = ap suc (ih e)
 
 regroup : (key v rest : List ℕ) → line key v ++ rest ≡ key ++ (v ++ newline ∷ rest)

@@ -9,7 +9,7 @@ use lib.Dec.{eqb}
 use lib.ListN.{length, drop, length-append}
 use lib.Seq.{drop-length}
 use Rattle.maths.specs.Tests.{pick}
-use Rattle.maths.proofs.Tests.{both-first, both-second}
+use Rattle.maths.proofs.Tests.{never, both-first, both-second}
 use Rattle.sheet_values.specs.declared.Op.{Op}
 use Rattle.sheet_values.specs.declared.Op.the-variants.{Encode, Bf, Ms}
 use Rattle.sheet_values.specs.declared.Named.the-variants.{Names, NoName}
@@ -19,7 +19,7 @@ use Rattle.sheet_values.specs.Values.{begins, same, opOf}
 pub begins-word : (w s : List ℕ) → begins w s ≡ true → s ≡ w ++ drop (length w) s
 unfolding begins
 begins-word [] s e = refl
-begins-word (w ∷ ws) [] e = absurd (let z : _≡_ {A = ℕ} 0 1 = cc in omega arith)
+begins-word (w ∷ ws) [] e = absurd (never refl e)
 begins-word (w ∷ ws) (b ∷ s) e =
     rw (eqb-true b w (both-first (eqb b w) (begins ws s) e), ← begins-word ws s (both-second (eqb b w) (begins ws s) e))
 

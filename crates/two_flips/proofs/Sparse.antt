@@ -10,7 +10,7 @@ use borrow.Author.Tests.{eq-eqb, ne-eqb, eqb-true, eqb-false}
 use Rattle.maths.specs.Tests.{pick, both, all}
 use Rattle.maths.specs.Sums.{sumL}
 use Rattle.maths.specs.Ones.{delta}
-use Rattle.maths.proofs.Tests.{both-left, both-right}
+use Rattle.maths.proofs.Tests.{never, both-left, both-right}
 use Rattle.maths.proofs.Sums.{sumL-append, sumL-add, sumL-zero}
 use Rattle.maths.proofs.Ones.{delta-swap, delta-self, delta-other}
 use Rattle.codes.specs.Edges.{Edge}
@@ -96,7 +96,7 @@ most-at all (u ∷ us) some = go (decLt (tell u all) (most all us)) (most-at all
     go (no h) next = (u, omega (arith, delta-self u), omega (arith, tell-occurs u all))
 
 member-yes : (u : ℕ) (xs : List ℕ) → member u xs ≡ true → 0 < occurs xs u
-member-yes u [] e = absurd (let z : _≡_ {A = ℕ} 0 1 = cc in omega arith)
+member-yes u [] e = absurd (never refl e)
 member-yes u (x ∷ xs) e = go (eqb u x) refl e (member-yes u xs)
   where
     go : (b : Bool) → eqb u x ≡ b → elim b [ true ↦ true | false ↦ member u xs ] ≡ true → (member u xs ≡ true → 0 < occurs xs u) → 0 < occurs (x ∷ xs) u
@@ -108,7 +108,7 @@ member-no u [] e = refl
 member-no u (x ∷ xs) e = go (eqb u x) refl e (member-no u xs)
   where
     go : (b : Bool) → eqb u x ≡ b → elim b [ true ↦ true | false ↦ member u xs ] ≡ false → (member u xs ≡ false → occurs xs u ≡ 0) → occurs (x ∷ xs) u ≡ 0
-    go true h e next = absurd (let z : _≡_ {A = ℕ} 0 1 = cc in omega arith)
+    go true h e next = absurd (never e refl)
     go false h e next = omega (arith, next e, delta-other u x (λ q. eqb-false u x h (sym q)))
 
 module _ (all : List ℕ) (t : ℕ) where

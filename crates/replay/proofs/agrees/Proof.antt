@@ -1,4 +1,4 @@
-use Rattle.replay.proofs.Lengths.{lends}
+use Rattle.replay.proofs.Lent.{lends}
 use Rattle.replay.proofs.agrees.Statement.{statement}
 use Rattle.replay.proofs.agrees.Tie as tie
 

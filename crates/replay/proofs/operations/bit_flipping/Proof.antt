@@ -1,4 +1,4 @@
-use Rattle.replay.proofs.Lengths.{lends}
+use Rattle.replay.proofs.Lent.{lends}
 use Rattle.replay.proofs.operations.bit_flipping.Statement.{statement}
 use Rattle.replay.proofs.operations.bit_flipping.Tie as tie
 

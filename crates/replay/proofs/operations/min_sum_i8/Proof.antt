@@ -1,7 +1,7 @@
 use Prim.Native.Nat.{ℕ}
 use lib.IntN.{ℤ, pos}
 use Rattle.codes.specs.Codes.{maxSent, maxSigns, maxSoftWorking}
-use Rattle.replay.proofs.Lengths.{lent-is, lends}
+use Rattle.replay.proofs.Lent.{lent-is, lends}
 use Rattle.replay.proofs.operations.min_sum_i8.Statement.{statement}
 use Rattle.replay.proofs.operations.min_sum_i8.Tie as tie
 

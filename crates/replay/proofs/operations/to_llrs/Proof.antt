@@ -1,4 +1,4 @@
-use Rattle.replay.proofs.Lengths.{lends}
+use Rattle.replay.proofs.Lent.{lends}
 use Rattle.replay.proofs.operations.to_llrs.Statement.{statement}
 use Rattle.replay.proofs.operations.to_llrs.Tie as tie
 

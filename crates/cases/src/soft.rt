@@ -1,7 +1,8 @@
 // Confidences as the list holds them: a byte, the value modulo 256.
 ghost use mathlib.Core.List.{map};
 ghost use mathlib.Core.Path.{_≡_};
-ghost use Rattle.replay.specs.Agreement.{Agrees, signed, softened};
+ghost use Rattle.maths.specs.Tests.{Agrees};
+ghost use Rattle.cases.specs.Cases.{signed, softened};
 
 fn soft_of(x: u8) -> i8
     ensures { λ r. ⌜ r ≡ signed x ⌝ }
@@ -14,7 +15,7 @@ fn soft_of(x: u8) -> i8
 }
 
 // Slices of two lengths stay as they are.
-pub(crate) fn soften(bytes: &[u8], soft: &mut [i8])
+pub fn soften(bytes: &[u8], soft: &mut [i8])
     ensures { λ _. ⌜ now (soft .exit) ≡ softened (now (bytes .entry)) (now (soft .entry)) ⌝ }
 {
     if soft.len() != bytes.len() {
@@ -26,7 +27,7 @@ pub(crate) fn soften(bytes: &[u8], soft: &mut [i8])
 }
 
 // Whether the list holds these confidences.
-pub(crate) fn same_soft(soft: &[i8], bytes: &[u8]) -> bool
+pub fn same_soft(soft: &[i8], bytes: &[u8]) -> bool
     ensures { λ r. ⌜ Agrees r (now (soft .entry) ≡ map signed (now (bytes .entry))) ⌝ }
 {
     if soft.len() != bytes.len() {

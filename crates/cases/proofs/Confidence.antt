@@ -14,13 +14,13 @@ use lib.Seq.{ext-getD}
 use mir.Syntax.{w8, w16}
 use mir.Val.{SFits, hbits, toZ, ofZ}
 use mir.Facts.{toZ-ofZ}
+use Rattle.maths.specs.Tests.{Agrees}
 use Rattle.maths.specs.Lists.{span}
+use Rattle.maths.proofs.Tests.{denies}
 use Rattle.maths.proofs.Lists.{span-length}
 use Rattle.maths.proofs.Slices.{span-get}
 use Rattle.maths.proofs.Writing.{Written, written-none, written-more, written-all}
-use Rattle.min_sum.proofs.Signed.{back}
-use Rattle.replay.specs.Agreement.{Agrees, signed, softened}
-use Rattle.replay.proofs.Agreeing.{denies}
+use Rattle.cases.specs.Cases.{signed, softened}
 
 module _ (x : ℕ) (few : x < 256) where
   lowered : toZ w16 x -ℤ pos 256 ≡ negsuc (256 - suc x)
@@ -68,7 +68,7 @@ module _ (bytes : List ℕ) (soft₀ : List ℤ) where
 
   module _ (i : ℕ) (soft : List ℤ) (r : Softening bytes soft₀ i soft) where
     pub soften-more : (x : ℤ) → x ≡ signedAt bytes i → mag x < 2 ^ hbits w8 → i < length bytes → Softening bytes soft₀ (i + 1) (set soft i (toZ w8 (ofZ w8 x)))
-    soften-more x e f h = record { same = r .same; written = written-more (r .written) h (sym (r .same)) (back w8 x f ∙ e) }
+    soften-more x e f h = record { same = r .same; written = written-more (r .written) h (sym (r .same)) (toZ-ofZ (record { sfits = f }) ∙ e) }
 
     pub soften-ends : length bytes ≤ i → soft ≡ softened bytes soft₀
     soften-ends h =
@@ -99,7 +99,7 @@ module _ (soft : List ℤ) (bytes : List ℕ) where
           record {
             low = omega arith;
             long = r .long;
-            front = below-more (λ (k : ℕ). getD soft k (pos 0) ≡ signedAt bytes k) i (r .front) (sym (back w8 (getD soft i (pos 0)) f) ∙ ap (toZ w8) h ∙ back w8 y g ∙ e);
+            front = below-more (λ (k : ℕ). getD soft k (pos 0) ≡ signedAt bytes k) i (r .front) (sym (toZ-ofZ (record { sfits = f })) ∙ ap (toZ w8) h ∙ toZ-ofZ (record { sfits = g }) ∙ e);
           }
 
     pub same-ends : length bytes ≤ i → Agrees true (soft ≡ map signed bytes)

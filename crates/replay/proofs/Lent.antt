@@ -1,38 +1,21 @@
--- How long the parts of a case are, and what is lent of a buffer. Assumes nothing.
+-- What is lent of a buffer. Assumes nothing.
 use mathlib.Core.Bool.{Bool}
 use mathlib.Core.List.{List}
 use mathlib.Core.Path.{_≡_, sym, _∙_}
-use Prim.Native.Nat.{ℕ, _≤_, _<_, min}
-use native.Mathlib.Decide.{ℕ-discrete}
+use Prim.Native.Nat.{ℕ, min}
 use native.Mathlib.Omega.{arith}
 use borrow.Author.Needs.{needs}
-use borrow.Author.Tests.{ne-eqb}
 use lib.IntN.{ℤ, pos, negsuc}
 use lib.ListN.{length, take, replicate}
+use Rattle.maths.specs.Tests.{Agrees}
 use Rattle.maths.proofs.Slices.{replicate-front, replicate-front-length}
-use Rattle.codes.specs.declared.CodeParams.{CodeParams}
 use Rattle.codes.specs.Codes.{maxBits, maxSent}
 use Rattle.min_sum.specs.Confidence.{i8}
 use Rattle.bit_flip.specs.Outcome.{toldFlip}
 use Rattle.min_sum.specs.Outcomes.{written, toLlrsOutcome, toHardOutcome}
-use Rattle.replay.specs.declared.cases.Case.{Case}
-use Rattle.replay.specs.Agreement.{Agrees, readLen, writtenLen, softened, lent, Converted, Compared, bitFlipping, FlipCompared}
-
-module _ (c : Case) (row : CodeParams) where
-  -- an operation that is none of the five
-  module _ (n₁ : c .op ≡ 1 → ⊥) (n₂ : c .op ≡ 2 → ⊥) (n₃ : c .op ≡ 3 → ⊥) (n₄ : c .op ≡ 4 → ⊥) (n₅ : c .op ≡ 5 → ⊥) where
-    pub reads-text : c .text ≡ readLen c row
-    reads-text = rw (ne-eqb (c .op) 1 n₁, ne-eqb (c .op) 2 n₂, ne-eqb (c .op) 3 n₃, ne-eqb (c .op) 4 n₄, ne-eqb (c .op) 5 n₅)
-
-    pub writes-answer : c .answer ≡ writtenLen c row
-    writes-answer = rw (ne-eqb (c .op) 1 n₁, ne-eqb (c .op) 2 n₂, ne-eqb (c .op) 3 n₃, ne-eqb (c .op) 4 n₄, ne-eqb (c .op) 5 n₅)
-
-  pub writes-output : 2 ≤ c .op → c .op < 4 → row .«output_len» ≡ writtenLen c row
-  writes-output l h = by (ℕ-discrete (c .op) 2)
-    where
-      by : Dec (c .op ≡ 2) → row .«output_len» ≡ writtenLen c row
-      by (yes e) = rw e
-      by (no n) = let e : c .op ≡ 3 = omega arith in rw e
+use Rattle.cases.specs.declared.Case.{Case}
+use Rattle.cases.specs.Cases.{softened}
+use Rattle.replay.specs.Agreement.{lent, Converted, Compared, bitFlipping, FlipCompared}
 
 module _ {A : Type 0} (room : ℕ) (x : A) (n : ℕ) {k : ℕ} (e : k ≡ min n room) where
   -- the front of a buffer that is full of one value

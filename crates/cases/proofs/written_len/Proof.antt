@@ -1,9 +1,9 @@
 use mathlib.Core.Logic.{⊎-elim, inl, inr}
 use mathlib.Core.Path.{_≡_}
 use native.Mathlib.Omega.{arith}
-use Rattle.replay.proofs.Lengths.{writes-output, writes-answer}
-use Rattle.replay.proofs.cases.written_len.Statement.{statement}
-use Rattle.replay.proofs.cases.written_len.Tie as tie
+use Rattle.cases.proofs.Lengths.{writes-output, writes-answer}
+use Rattle.cases.proofs.written_len.Statement.{statement}
+use Rattle.cases.proofs.written_len.Tie as tie
 
 pub written-len-spec : {M : Type 1} → statement M
 written-len-spec =

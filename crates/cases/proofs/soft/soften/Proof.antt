@@ -1,8 +1,8 @@
 use Prim.Native.Nat.{_-_}
 use lib.ListN.{length}
-use Rattle.replay.proofs.Confidence.{Softening, softens}
-use Rattle.replay.proofs.soft.soften.Statement.{statement}
-use Rattle.replay.proofs.soft.soften.Tie as tie
+use Rattle.cases.proofs.Confidence.{Softening, softens}
+use Rattle.cases.proofs.soft.soften.Statement.{statement}
+use Rattle.cases.proofs.soft.soften.Tie as tie
 
 -- the first i confidences are written
 abbrev Inv-loop : tie.InvT-loop

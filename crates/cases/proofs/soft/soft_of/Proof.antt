@@ -1,7 +1,7 @@
-use Rattle.replay.proofs.Confidence.{lowers, narrows, signed-below, signed-above}
+use Rattle.cases.proofs.Confidence.{lowers, narrows, signed-below, signed-above}
 use borrow.Author.Needs.{needs}
-use Rattle.replay.proofs.soft.soft_of.Statement.{statement}
-use Rattle.replay.proofs.soft.soft_of.Tie as tie
+use Rattle.cases.proofs.soft.soft_of.Statement.{statement}
+use Rattle.cases.proofs.soft.soft_of.Tie as tie
 
 pub soft-of-spec : {M : Type 1} → statement M
 soft-of-spec =

@@ -1,7 +1,7 @@
 use mathlib.Core.Logic.{⊎-elim, inl, inr}
-use Rattle.replay.proofs.Lengths.{reads-text}
-use Rattle.replay.proofs.cases.read_len.Statement.{statement}
-use Rattle.replay.proofs.cases.read_len.Tie as tie
+use Rattle.cases.proofs.Lengths.{reads-text}
+use Rattle.cases.proofs.read_len.Statement.{statement}
+use Rattle.cases.proofs.read_len.Tie as tie
 
 pub read-len-spec : {M : Type 1} → statement M
 read-len-spec =

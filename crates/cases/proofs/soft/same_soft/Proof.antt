@@ -1,8 +1,8 @@
 use Prim.Native.Nat.{_-_}
 use lib.ListN.{length}
-use Rattle.replay.proofs.Confidence.{same-more, Same, softens}
-use Rattle.replay.proofs.soft.same_soft.Statement.{statement}
-use Rattle.replay.proofs.soft.same_soft.Tie as tie
+use Rattle.cases.proofs.Confidence.{same-more, Same, softens}
+use Rattle.cases.proofs.soft.same_soft.Statement.{statement}
+use Rattle.cases.proofs.soft.same_soft.Tie as tie
 
 -- the first i confidences are the same
 abbrev Inv-loop : tie.InvT-loop

@@ -1,0 +1,41 @@
+// The list: what it holds is read into buffers, and the head of a case.
+ghost use mathlib.Core.Path.{_≡_};
+ghost use Prim.Native.Nat.{_+_, _*_, min};
+use cases::Case;
+
+pub(crate) fn least(a: usize, b: usize) -> usize
+    ensures { λ r. ⌜ r ≡ min a b ⌝ }
+{
+    if a < b { a } else { b }
+}
+
+// Whether a buffer could be filled from the list.
+pub(crate) fn filled(fd: i32, buf: &mut [u8]) -> bool {
+    io::read_full(fd, buf) == buf.len()
+}
+
+pub(crate) fn wide(x: u8) -> usize
+    ensures { λ r. ⌜ r ≡ x ⌝ }
+{
+    x as usize
+}
+
+fn joined(low: u8, high: u8) -> usize
+    ensures { λ r. ⌜ r ≡ low + 256 * high ⌝ }
+{
+    low as usize + 256 * (high as usize)
+}
+
+pub(crate) fn head(fd: i32) -> Case {
+    let mut bytes = [0u8; 5];
+    filled(fd, &mut bytes);
+    Case {
+        op: bytes[0],
+        code: wide(bytes[1]),
+        limit: wide(bytes[2]),
+        success: bytes[3] == 1,
+        iters: wide(bytes[4]),
+        text: joined(bytes[1], bytes[2]),
+        answer: joined(bytes[3], bytes[4]),
+    }
+}
