@@ -1,6 +1,6 @@
 -- A buffer that is filled by reads, each of which may bring less than there is room for. Assumes nothing.
 use mathlib.Core.List.{List, _++_}
-use mathlib.Core.Path.{_≡_, refl, sym, subst, _∙_}
+use mathlib.Core.Path.{_≡_, refl, subst, _∙_}
 use Prim.Native.Nat.{ℕ, _+_, _-_, _^_, _≤_, _<_}
 use native.Mathlib.Omega.{arith}
 use borrow.Author.Needs.{needs}
@@ -9,6 +9,7 @@ use lib.ListN.{length, take, length-append}
 use lib.Seq.{length-take-le}
 use mir.Syntax.{w64}
 use mir.Val.{Fits}
+use Rattle.maths.proofs.Slices.{lent-long}
 use Rattle.bench.specs.Input.{Within}
 use Rattle.bench.specs.declared.Input.{Input}
 use Rattle.bench.specs.declared.Input.the-variants.{Bytes}
@@ -17,9 +18,6 @@ use Rattle.bench.specs.declared.Input.the-variants.{Bytes}
 module _ (r : Input) (n : ℕ) (xs : List ℕ) (e : r ≡ Bytes n) (w : Within r (length xs)) where
   pub came-within : n ≤ length xs
   came-within = subst (λ (x : Input). Within x (length xs)) e w
-
-  pub came-long : n ≡ length (take n xs)
-  came-long = sym (length-take-le n xs came-within)
 
 -- the first bytes of the text have come
 pub record Filled (text₀ text : List ℕ) (done : ℕ) : Type 0 where
@@ -58,4 +56,4 @@ module _ (text₀ text came : List ℕ) (done k : ℕ) (f : Filled text₀ text 
     pub filled-less : (more ≡ 0 → ⊥) → length (putMid done k text came) - (done + more) < length text - done
     filled-less n = rw s (omega (arith, room))
 
-pub ruleset fills = (came-within, came-long, filled-none, filled-long, filled-still, filled-fits, filled-more, filled-less, needs)
+pub ruleset fills = (came-within, lent-long, filled-none, filled-long, filled-still, filled-fits, filled-more, filled-less, needs)

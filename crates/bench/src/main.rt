@@ -3,6 +3,7 @@ ghost use lib.ListN.{length};
 ghost use Rattle.bench.specs.Input.{Within};
 use libc::STDIN_FILENO;
 use libc::STDOUT_FILENO;
+use sheet_text::read::TEXT_ROOM;
 
 // What came: so many bytes, or a read that failed.
 enum Input {
@@ -55,8 +56,7 @@ fn answer_input(text: &mut [u8]) {
     write_answer(&text[..n]);
 }
 
-// A sheet has at most 8,192 bytes: one more tells that it is too long.
 fn main() {
-    let mut text = [0u8; 8193];
+    let mut text = [0u8; TEXT_ROOM];
     answer_input(&mut text);
 }

@@ -9,7 +9,7 @@ use native.Mathlib.Omega.{arith}
 use borrow.Author.Tests.{ne-eqb}
 use lib.Dec.{eqb, eqb·suc-zero}
 use lib.ListN.{length, getD, set, take, drop, replicate, length-append, length-drop, length-replicate, getD-replicate, drop-of-length-le, List·getD-append, List·getD-eq-default}
-use lib.Seq.{sets, drop-cons, set-at, set-getD, getD-at, getD-append-add, ext-getD}
+use lib.Seq.{sets, drop-cons, set-at, set-getD, getD-at, getD-append-add, ext-getD, length-take-le}
 use Rattle.maths.specs.Tests.{both, below}
 use Rattle.maths.specs.Lists.{span, fold, largestOf, overwrite}
 use Rattle.maths.proofs.Lists.{span-split, span-length, getD-span, map-span}
@@ -74,14 +74,17 @@ padded-at [] n x i = replicate-at n x i
 padded-at (y ∷ xs) n x zero = refl
 padded-at (y ∷ xs) n x (suc i) = padded-at xs n x i
 
--- what is lent from its front
 pub replicate-front : {A : Type 0} (k : ℕ) (x : A) (n : ℕ) → n ≤ k → take n (replicate k x) ≡ replicate n x
 replicate-front k x zero h = refl
 replicate-front zero x (suc n) h = absurd (not-suc-le-zero h)
 replicate-front (suc k) x (suc n) h = ap (λ (xs : List _). x ∷ xs) (replicate-front k x n (le-of-suc-le-suc h))
 
-pub replicate-front-length : {A : Type 0} (k : ℕ) (x : A) (n : ℕ) → n ≤ k → length (take n (replicate k x)) ≡ n
-replicate-front-length k x n h = ap length (replicate-front k x n h) ∙ length-replicate n x
+-- what is lent of a buffer from its front is as long as was asked for, and of one that is full of one value
+pub lent-long : {A : Type 0} (n : ℕ) (w : List A) → n ≤ length w → n ≡ length (take n w)
+lent-long n w h = sym (length-take-le n w h)
+
+pub lent-full : {A : Type 0} (k : ℕ) (x : A) (n : ℕ) → n ≤ k → n ≡ length (take n (replicate k x))
+lent-full k x n h = lent-long n (replicate k x) (rw (length-replicate k x) h)
 
 pub span-one : {A : Type 0} (x : A) (s n : ℕ) → span (λ i. x) s n ≡ replicate n x
 unfolding span

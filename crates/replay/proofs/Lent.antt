@@ -1,14 +1,14 @@
 -- What is lent of a buffer. Assumes nothing.
 use mathlib.Core.Bool.{Bool}
 use mathlib.Core.List.{List}
-use mathlib.Core.Path.{_≡_, sym, _∙_}
+use mathlib.Core.Path.{_≡_, _∙_}
 use Prim.Native.Nat.{ℕ, min}
 use native.Mathlib.Omega.{arith}
 use borrow.Author.Needs.{needs}
 use lib.IntN.{ℤ, pos, negsuc}
 use lib.ListN.{length, take, replicate}
 use Rattle.maths.specs.Tests.{Agrees}
-use Rattle.maths.proofs.Slices.{replicate-front, replicate-front-length}
+use Rattle.maths.proofs.Slices.{replicate-front, lent-full}
 use Rattle.codes.specs.Codes.{maxBits, maxSent}
 use Rattle.min_sum.specs.Confidence.{i8}
 use Rattle.bit_flip.specs.Outcome.{toldFlip}
@@ -19,8 +19,8 @@ use Rattle.replay.specs.Agreement.{lent, Converted, Compared, bitFlippin
 
 module _ {A : Type 0} (room : ℕ) (x : A) (n : ℕ) {k : ℕ} (e : k ≡ min n room) where
   -- the front of a buffer that is full of one value
-  pub lent-long : k ≡ length (take k (replicate room x))
-  lent-long = sym (replicate-front-length room x k (omega arith))
+  pub least-lent : k ≡ length (take k (replicate room x))
+  least-lent = lent-full room x k (omega arith)
 
   pub lent-is : take k (replicate room x) ≡ lent room x n
   lent-is = replicate-front room x k (omega arith) ∙ rw e
@@ -41,4 +41,4 @@ pub flip-lent : (c : Case) (read want output output′ working : List ℕ) (r : 
     → Compared c want (toldFlip (bitFlipping c read output (lent maxBits 0 n))) r output′
 flip-lent c read want output output′ working r n k e d = rw (lent-is {A = ℕ} maxBits 0 n e) at (d .compared)
 
-pub ruleset lends = (lent-long, llrs-lent, hard-lent, flip-lent, needs)
+pub ruleset lends = (least-lent, llrs-lent, hard-lent, flip-lent, needs)

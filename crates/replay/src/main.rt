@@ -20,6 +20,7 @@ use operations::encoders;
 use operations::min_sum_i8;
 use operations::to_hard;
 use operations::to_llrs;
+use sheet_text::read::TEXT_ROOM;
 
 // One case, from the list into the buffers that are lent: of the lengths that its operation reads and writes.
 fn run_case(
@@ -49,11 +50,11 @@ fn run_case(
 }
 
 fn agrees(fd: i32, c: Case) -> bool {
-    let mut read = [0u8; 8193];
+    let mut read = [0u8; TEXT_ROOM];
     let mut want = [0u8; MAX_SENT];
     let mut output = [0u8; MAX_SENT];
     let row = params(c.code).row;
-    let r = least(read_len(c, row), 8193);
+    let r = least(read_len(c, row), TEXT_ROOM);
     let w = least(written_len(c, row), MAX_SENT);
     run_case(fd, c, row, &mut read[..r], &mut want[..w], &mut output[..w])
 }

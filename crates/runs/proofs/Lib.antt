@@ -1,6 +1,7 @@
 pub mod Stored
 pub mod Filling
 pub mod Filled
+pub mod Lent
 pub mod Flat
 pub mod Sweep
 pub mod Tally

@@ -1,15 +1,13 @@
 -- Whether a word meets the equations of a code, as the functions ask it and as the theorems say it. Assumes nothing.
 use mathlib.Core.Bool.{Bool, true, false}
-use mathlib.Core.List.{List, [], _∷_}
-use mathlib.Core.Path.{_≡_, refl, sym, ap, _∙_}
-use Prim.Native.Nat.{ℕ, _+_, _-_, _*_, _%_, _≤_, _<_}
-use native.Mathlib.Decide.{decLt}
+use mathlib.Core.List.{List}
+use mathlib.Core.Path.{_≡_, sym, _∙_}
+use Prim.Native.Nat.{ℕ, _+_, _-_, _*_, _%_, _≤_}
 use native.Mathlib.Omega.{arith}
 use borrow.Author.Needs.{needs}
 use borrow.Author.Tests.{eqb-true, eq-eqb, ne-eqb}
 use lib.Dec.{T, eqb}
-use lib.ListN.{length, take, replicate, length-append}
-use lib.Seq.{take-at, length-take-le}
+use lib.ListN.{length, take, replicate}
 use mir.Syntax.{w64}
 use mir.Val.{Fits}
 use Rattle.maths.specs.Tests.{all}
@@ -17,7 +15,7 @@ use Rattle.maths.specs.Bits.{bitAt}
 use Rattle.maths.specs.Lists.{keep, largestOf}
 use Rattle.maths.proofs.Tests.{both-first, both-second, below-true, below-all, all-flatMap}
 use Rattle.maths.proofs.Lists.{keep-all, keep-holds}
-use Rattle.maths.proofs.Slices.{largest-none, replicate-front-length}
+use Rattle.maths.proofs.Slices.{largest-none, lent-long, lent-full}
 use Rattle.bits.specs.Packed.{unpacked}
 use Rattle.bits.proofs.Packed.{unpacked-word}
 use Rattle.runs.specs.declared.Runs.{Runs}
@@ -25,16 +23,15 @@ use Rattle.codes.specs.declared.CodeParams.{CodeParams}
 use Rattle.codes.specs.declared.ParamsAnswer.{ParamsAnswer}
 use Rattle.codes.specs.Answers.{test, firstOf, orTest, unlike}
 use Rattle.codes.specs.Sound.{Roomy}
-use Rattle.codes.specs.Codes.{codes, Known, known, rowOf, paramsOf, bitsIn, checksIn, maxBits, maxChecks}
+use Rattle.codes.specs.Codes.{Known, known, rowOf, paramsOf, bitsIn, checksIn, maxBits, maxChecks}
 use Rattle.codes.specs.Edges.{Edge, inRange, edges}
-use Rattle.runs.specs.Runs.{Run, runEdges, runs, numbers, room, runsOf, readRuns, within, laid}
+use Rattle.runs.specs.Runs.{runEdges, runs, numbers, runsOf, readRuns, within, laid}
 use Rattle.codes.specs.Equations.{par, Hold, Meets, wordOf}
 use Rattle.runs.specs.Meets.{holds, noneBroken, meetsTest, syndromeOf, meetTests, metOf, Accepted}
 use Rattle.codes.proofs.Answers.{answered, all-passed, passed-known, passed-length}
 use Rattle.codes.proofs.Codes.{roomy}
-use Rattle.runs.proofs.Stored.{numbers-length}
-use Rattle.runs.proofs.Filled.{runs-known, runs-unknown, fills}
 use Rattle.runs.proofs.Flat.{runs-flat, runs-within, run-ranged}
+use Rattle.runs.proofs.Lent.{read-numbers, runs-fit, runs-room, runs-taken}
 
 -- ---- the test and what it says
 pub holds-hold : (es : List Edge) (m : ℕ) (w : ℕ → ℕ) → holds es m w ≡ true → Hold es m w
@@ -49,11 +46,6 @@ unfolding syndromeOf
 none-broken es m w = largest-none (λ a. par es w a % 2) m
 
 -- ---- the runs of a code
-read-numbers : (rs : List Run) → readRuns (numbers rs) ≡ rs
-unfolding readRuns numbers
-read-numbers [] = refl
-read-numbers (r ∷ rs) = ap {B = List Run} (λ l. r ∷ l) (read-numbers rs)
-
 -- they all lie within, and are its edges
 pub laid-runs : (code : ℕ) → Known code → laid (checksIn code) (bitsIn code) (numbers (runs code)) ≡ edges code
 unfolding laid
@@ -64,35 +56,9 @@ pub laid-ranged : (m n : ℕ) (ns : List ℕ) → T (all (inRange m n) (laid m n
 unfolding laid
 laid-ranged m n ns = all-flatMap (within m n) (inRange m n) runEdges (keep (within m n) (readRuns ns)) (keep-holds (within m n) (readRuns ns)) (run-ranged m n)
 
--- ---- the list of runs, as it is lent
-pub runs-few : (code : ℕ) → length (runs code) ≤ room
-runs-few code = go (decLt code codes)
-  where
-    go : Dec (code < codes) → length (runs code) ≤ room
-    go (yes h) = omega (arith, ap length (runs-known code h), fills code h .few)
-    go (no h) = rw (runs-unknown code (omega arith)) (omega arith)
-
-module _ (code : ℕ) (r : Runs) (e : r ≡ runsOf code) where
-  pub runs-fit : Fits w64 (3 * r .count)
-  runs-fit = rw e (record { fits = omega (arith, runs-few code) })
-
-  pub runs-room : 3 * r .count ≤ length (r .triples)
-  runs-room =
-      let n = length-append (numbers (runs code)) (replicate (3 * (room - length (runs code))) 0) in
-      rw e (omega (arith, n, numbers-length (runs code)))
-
-  pub runs-lent : 3 * r .count ≡ length (take (3 * r .count) (r .triples))
-  runs-lent = sym (length-take-le (3 * r .count) (r .triples) runs-room)
-
-  pub runs-taken : take (3 * r .count) (r .triples) ≡ numbers (runs code)
-  runs-taken = rw e (take-at (numbers (runs code)) _ (3 * length (runs code)) (numbers-length (runs code)))
-
 -- n zeros of an array that holds k of them
 abbrev pub zeros : ℕ → ℕ → List ℕ
 zeros k n = take n (replicate k 0)
-
-pub zeros-lent : (k n : ℕ) → n ≤ k → n ≡ length (zeros k n)
-zeros-lent k n h = sym (replicate-front-length k 0 n h)
 
 -- ---- what the functions find
 pub met-by : (ns word bits bits′ checks : List ℕ) (m n n′ r : ℕ) → r ≡ largestOf checks → checks ≡ syndromeOf (laid m n′ ns) m (wordOf bits′) → bits′ ≡ unpacked word bits → n′ ≡ n
@@ -119,10 +85,10 @@ module _ (code : ℕ) (row : CodeParams) (is : row ≡ rowOf code) (known : Know
 
   -- as many zeros as it has checks, and as it has bits
   pub checks-lent : length (zeros maxChecks (row .n + row .«punctured_bits» - row .k)) ≡ checksIn code
-  checks-lent = sym (zeros-lent maxChecks _ checks-few) ∙ rw is
+  checks-lent = sym (lent-full maxChecks 0 _ checks-few) ∙ rw is
 
   bits-lent : length (zeros maxBits (row .n + row .«punctured_bits»)) ≡ bitsIn code
-  bits-lent = sym (zeros-lent maxBits _ bits-few) ∙ rw is
+  bits-lent = sym (lent-full maxBits 0 _ bits-few) ∙ rw is
 
 pub code-met : (code : ℕ) (row : CodeParams) (word : List ℕ) (q : Runs) (r : Bool) → Accepted code row (length word) → q ≡ runsOf code
     → (let checks = zeros maxChecks (row .n + row .«punctured_bits» - row .k) in
@@ -135,7 +101,7 @@ code-met code row word q r a eq er =
     let w : wordOf (unpacked word (zeros maxBits n)) ≡ bitAt word = unpacked-word word (zeros maxBits n) (omega (arith, a .long, l, roomy code (a .known) .whole)) in
     er ∙ rw (w, l, checks-lent code row (a .is-row) (a .known), runs-taken code q eq, laid-runs code (a .known)) (none-broken (edges code) (checksIn code) (bitAt word))
 
-pub ruleset meeting = (runs-fit, runs-room, runs-lent, zeros-lent, bits-fit, data-low, bits-few, checks-few, met-by, code-met, needs)
+pub ruleset meeting = (runs-fit, runs-room, lent-long, lent-full, bits-fit, data-low, bits-few, checks-few, met-by, code-met, needs)
 
 -- ---- the answer
 module _ (code : ℕ) (word : List ℕ) (p : ParamsAnswer) (a : ℕ) (t : a ≡ orTest (p .answer) (test (unlike (length word) (p .row .«output_len»)) 2)) (e : p ≡ paramsOf code) where

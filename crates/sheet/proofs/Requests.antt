@@ -5,9 +5,9 @@ use Prim.Native.Nat.{ℕ, _+_, _-_, _/_, _^_, _≤_, _<_}
 use native.Mathlib.Omega.{arith}
 use borrow.Author.Needs.{needs}
 use lib.ListN.{length, take, drop, replicate}
-use lib.Seq.{length-take-le}
 use mir.Syntax.{w64}
 use mir.Val.{Fits}
+use Rattle.maths.proofs.Slices.{lent-long}
 use Rattle.report.specs.declared.Report.{Report}
 use Rattle.report.specs.Report.{refusal}
 use Rattle.sheet_values.specs.Values.{unhexed}
@@ -39,13 +39,10 @@ module _ (s : List ℕ) (r : Reading) (q : Request) (e : r ≡ Asks q) (f : r �
     pub bytes-inside : q .digits / 2 ≤ length buffer
     bytes-inside = frame-fits s q request g
 
-    pub bytes-long : q .digits / 2 ≡ length (take (q .digits / 2) buffer)
-    bytes-long = sym (length-take-le (q .digits / 2) buffer bytes-inside)
-
     pub sheet-answered : (a : Answer) → a ≡ answerOf (answerTo (sheet (q .code) (q .op) (q .limit) (take (q .digits / 2) buffer))) → a ≡ answerOf (sheetOf s)
     sheet-answered a h =
         h
         ∙ ap (λ (l : List ℕ). answerOf (answerTo (sheet (q .code) (q .op) (q .limit) l))) (frame-there s q request g)
         ∙ ap (λ (x : Sheet). answerOf (answerTo x)) (sym (request .parsed))
 
-pub ruleset requests = (sheet-malformed, digits-fit, digits-inside, bytes-inside, bytes-long, sheet-answered, needs)
+pub ruleset requests = (sheet-malformed, digits-fit, digits-inside, bytes-inside, lent-long, sheet-answered, needs)

@@ -1,13 +1,13 @@
 -- The buffers of the operations serve every code, known or not. Assumes nothing.
 use mathlib.Core.List.{List}
-use mathlib.Core.Path.{_≡_, refl, sym}
+use mathlib.Core.Path.{_≡_, refl}
 use Prim.Native.Nat.{ℕ, _/_, _≤_}
 use native.Mathlib.Omega.{arith}
 use borrow.Author.Needs.{needs}
 use lib.Dec.{T, leb, leb→le}
 use lib.IntN.{ℤ, pos, negsuc}
 use lib.ListN.{length, take, replicate}
-use Rattle.maths.proofs.Slices.{replicate-front, replicate-front-length}
+use Rattle.maths.proofs.Slices.{replicate-front, lent-full}
 use Rattle.codes.specs.declared.CodeParams.{CodeParams}
 use Rattle.codes.specs.declared.ParamsAnswer.{ParamsAnswer}
 use Rattle.codes.specs.Codes.{rows, paramsOf, maxBits, maxBytes, maxSent, maxSentBytes, maxSigns, maxSoftWorking}
@@ -35,12 +35,8 @@ row-of code p e =
     })
 
 -- ---- what is lent of a buffer of zeros
-module _ {A : Type 0} (room n : ℕ) (x : A) (h : n ≤ room) where
-  pub lent-long : n ≡ length (take n (replicate room x))
-  lent-long = sym (replicate-front-length room x n h)
-
-  pub lent-few : (k : ℕ) → T (leb room k) → length (take n (replicate room x)) ≤ k
-  lent-few k t = rw (replicate-front-length room x n h) (omega (arith, leb→le room k t))
+pub lent-few : {A : Type 0} (room n : ℕ) (x : A) → n ≤ room → (k : ℕ) → T (leb room k) → length (take n (replicate room x)) ≤ k
+lent-few room n x h k t = omega (arith, lent-full room x n h, leb→le room k t)
 
 -- an operation with the fronts of its buffers, which the row of the code cuts, answers the sheet
 module _ (code : ℕ) (frame : List ℕ) (r : CodeParams) (a : Answer) (q : RowOf code r) where
@@ -66,4 +62,4 @@ module _ (code : ℕ) (frame : List ℕ) (r : CodeParams) (a : Answer) (q : RowO
         q .is,
       ) at e
 
-pub ruleset lends = (row-of, lent-long, lent-few, encode-lent, flip-lent, soft-lent, needs)
+pub ruleset lends = (row-of, lent-full, lent-few, encode-lent, flip-lent, soft-lent, needs)

@@ -5,10 +5,11 @@ use Prim.Native.Nat.{ℕ, suc, _+_, _-_, _*_, _/_, _%_, _≤_, _<_}
 use native.Mathlib.Nat.{zero-add, add-zero}
 use native.Mathlib.Omega.{arith}
 use borrow.Author.Needs.{needs}
-use lib.ListN.{length, getD, set, take, drop, replicate, length-append, drop-of-length-le}
-use lib.Seq.{sets, length-take-le}
+use lib.ListN.{length, getD, set, drop, replicate, length-append, drop-of-length-le}
+use lib.Seq.{sets}
 use mir.Syntax.{w64}
 use mir.Val.{Fits}
+use Rattle.maths.proofs.Slices.{lent-long}
 use Rattle.maths.proofs.Stores.{sets-append, sets-replicate}
 use Rattle.sheet_values.specs.Spelling.{glyph, decimal, hex}
 use Rattle.sheet_values.proofs.Turns.{next}
@@ -109,7 +110,4 @@ module _ (a : Answer) (text : List ℕ) (e : a ≡ answerOf text) where
   pub answer-fits : a .len ≤ length (a .bytes)
   answer-fits = rw e (omega (arith, length-append text (replicate {A = ℕ} (room - length text) 0)))
 
-  pub answer-long : a .len ≡ length (take (a .len) (a .bytes))
-  answer-long = sym (length-take-le (a .len) (a .bytes) answer-fits)
-
-pub ruleset answers = (answer-fits, answer-long, needs)
+pub ruleset answers = (answer-fits, lent-long, needs)

@@ -12,8 +12,10 @@ use sheet_values::number_of;
 use sheet_values::op_of;
 use sheet_values::starts_with;
 
-// A sheet has at most so many bytes.
+// A sheet has at most so many bytes, and in a buffer of one more a longer text shows.
 const LONGEST: usize = 8192;
+
+pub const TEXT_ROOM: usize = LONGEST + 1;
 
 // A line's value stands between two places, and the newline at the second.
 pub(crate) enum Line {

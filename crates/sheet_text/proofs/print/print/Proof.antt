@@ -1,7 +1,7 @@
-use mathlib.Core.Path.{sym}
 use native.Mathlib.Omega.{arith}
 use denote.Ref.{now}
-use lib.Seq.{length-take-le, take-all}
+use lib.Seq.{take-all}
+use Rattle.maths.proofs.Slices.{lent-long}
 use Rattle.sheet_text.specs.Printing.{maxOutput}
 use borrow.Author.Needs.{needs}
 use Rattle.sheet_text.proofs.print.print.Statement.{statement}
@@ -11,8 +11,8 @@ pub print-spec : {M : Type 1} → statement M
 print-spec =
     tie.close
     (tie.spec
-    (λ c. sym (length-take-le maxOutput (now (c .before .before .before .args .output)) (omega arith)))
-    (λ c κs. omega (arith, length-take-le maxOutput (now (c .before .before .before .args .output)) (omega arith)))
+    (λ c. lent-long maxOutput (now (c .before .before .before .args .output)) (omega arith))
+    (λ c κs. omega (arith, lent-long maxOutput (now (c .before .before .before .args .output)) (omega arith)))
     (λ c. search needs)
     (λ c κs. search needs)
     (λ c. let a = c .before .before .before .args in rw (take-all maxOutput (now (a .output)) (c .before .if1 .left)) (c .print-all2 .ensures)))
