@@ -92,7 +92,7 @@ pub word-by : (ns w w₁ w₂ : List ℕ) (erased : ℕ → Bool) (m m′ t t′
 unfolding decodeWord
 word-by ns w w₁ w₂ erased m m′ t t′ p limit count k b r er e₂ e₁ em et = rw (er, ← e₁, ← (rw (em, et) at e₂))
 
-pub ruleset decodes = (received-by, received-bits, few-moved, first-by, first-bits, count-fits, word-by, needs)
+pub ruleset decodes = (lent-long, received-by, received-bits, few-moved, first-by, first-bits, count-fits, word-by, needs)
 
 -- ---- an accepted call
 module _ (code : ℕ) (row : CodeParams) (input working : ℕ) (a : Accepted code row input working) where

@@ -1,7 +1,7 @@
 // Bit flipping, a decoder of hard information. (Rust: decode_bf and decode_erasures of decoder.rs)
 ghost use mathlib.Core.Path.{_≡_};
 ghost use Prim.Native.Nat.{_-_, _*_, _≤_};
-ghost use lib.ListN.{length};
+ghost use lib.ListN.{length, take};
 ghost use Rattle.maths.specs.Lists.{span};
 ghost use Rattle.maths.specs.Bits.{bitAt};
 ghost use Rattle.codes.specs.Answers.{firstOf};
@@ -54,20 +54,21 @@ fn first_word(
     decode_erasures(triples, n, bits, checks, limit)
 }
 
-// All passes over the word that was received.
+// All passes over the word that was received, by the first runs of a list: so many of its numbers.
 fn decode_bits(
     input: &[u8],
     n: usize,
     triples: &[u16],
+    used: usize,
     bits: &mut [u8],
     checks: &mut [u8],
     limit: usize,
 ) -> Report
-    requires { ⌜ (8 * length (now input) ≡ n) × (n ≤ length (now bits)) × (FewEdges (laid (length (now checks)) (length (now bits)) (now triples))) ⌝ }
-    ensures { λ r. ⌜ decodedTo r (now (bits .exit)) ≡ decodeWord (laid (length (now (checks .entry))) (length (now (bits .entry))) (now (triples .entry))) (length (now (checks .entry))) (fromOn n (length (now (bits .entry)))) (length (now (bits .entry)) - n) limit (span (bitAt (now (input .entry))) 0 (length (now (bits .entry)))) ⌝ }
+    requires { ⌜ (8 * length (now input) ≡ n) × (n ≤ length (now bits)) × (used ≤ length (now triples)) × (FewEdges (laid (length (now checks)) (length (now bits)) (take used (now triples)))) ⌝ }
+    ensures { λ r. ⌜ decodedTo r (now (bits .exit)) ≡ decodeWord (laid (length (now (checks .entry))) (length (now (bits .entry))) (take used (now (triples .entry)))) (length (now (checks .entry))) (fromOn n (length (now (bits .entry)))) (length (now (bits .entry)) - n) limit (span (bitAt (now (input .entry))) 0 (length (now (bits .entry)))) ⌝ }
 {
-    let count = first_word(input, n, triples, bits, checks, limit);
-    let e = run_passes(triples, bits, checks, limit);
+    let count = first_word(input, n, &triples[..used], bits, checks, limit);
+    let e = run_passes(&triples[..used], bits, checks, limit);
     finished(e.success, e.iters + count)
 }
 
@@ -80,9 +81,8 @@ fn decode_word(code: usize, row: CodeParams, input: &[u8], bits: &mut [u8], limi
     let m = n + row.punctured_bits - row.k;
     let mut checks = [0u8; MAX_CHECKS];
     let runs = runs_of(code);
-    let end = 3 * runs.count;
-    let triples = runs.triples;
-    decode_bits(input, n, &triples[..end], bits, &mut checks[..m], limit)
+    let used = 3 * runs.count;
+    decode_bits(input, n, &runs.triples, used, bits, &mut checks[..m], limit)
 }
 
 // The bits stand in the lent working buffer, which is cleared at the end.

@@ -1,14 +1,14 @@
 // Min-sum decoding on confidences of 8 bits. (Rust: decode_ms of decoder.rs)
 ghost use mathlib.Core.List.{[], flatMap};
 ghost use mathlib.Core.Path.{_≡_};
-ghost use Prim.Native.Nat.{_-_, _*_};
-ghost use lib.ListN.{length, replicate};
+ghost use Prim.Native.Nat.{_-_, _*_, _≤_};
+ghost use lib.ListN.{length, take, replicate};
 ghost use Rattle.runs.specs.Runs.{runEdges, readRuns};
 ghost use Rattle.report.specs.Report.{ending};
 ghost use Rattle.min_sum.specs.Confidence.{i8};
 ghost use Rattle.min_sum.specs.MinSum.{decoded};
 ghost use Rattle.min_sum.specs.Outcomes.{left, finishedAs, decodeOutcome};
-ghost use Rattle.min_sum.specs.Working.{ranOver, Sized, Ready, Lent};
+ghost use Rattle.min_sum.specs.Working.{ranOver, layoutOf, Sized, Ready, Lent};
 
 mod passes;
 
@@ -26,27 +26,47 @@ use report::finished;
 use report::refused;
 use runs::runs_of;
 
-// The run of passes over the runs, from buffers of zeros: the working buffer is cleared first, and again at the end.
+// The run of passes over the first runs of a list, so many of its numbers, from buffers of zeros: the working buffer is cleared first, and
+// again at the end.
 fn decode_runs(
     marks: &mut [u8],
-    runs: &[u16],
+    triples: &[u16],
+    used: usize,
     at: Layout,
     llrs: &[i8],
     output: &mut [u8],
     working: &mut [i8],
     limit: usize,
 ) -> Ended
-    requires { ⌜ Sized at (length (now working)) (length (now marks)) × ((now marks ≡ replicate (at .checks) 0) × (Ready at (readRuns (now runs)) (length (now llrs)) × (8 * length (now output) ≡ at .bits))) ⌝ }
-    ensures { λ r. ⌜ left (ending (r .success) (r .iters)) (now (output .exit)) (now (working .exit)) [] ≡ finishedAs i8 (ranOver i8 (flatMap runEdges (readRuns (now (runs .entry)))) (at .checks) (at .bits - length (now (llrs .entry))) (now (llrs .entry)) limit) (length (now (working .entry))) 0 ⌝ }
+    requires { ⌜ Sized at (length (now working)) (length (now marks)) × ((now marks ≡ replicate (at .checks) 0) × ((used ≤ length (now triples)) × (Ready at (readRuns (take used (now triples))) (length (now llrs)) × (8 * length (now output) ≡ at .bits)))) ⌝ }
+    ensures { λ r. ⌜ left (ending (r .success) (r .iters)) (now (output .exit)) (now (working .exit)) [] ≡ finishedAs i8 (ranOver i8 (flatMap runEdges (readRuns (take used (now (triples .entry))))) (at .checks) (at .bits - length (now (llrs .entry))) (now (llrs .entry)) limit) (length (now (working .entry))) 0 ⌝ }
 {
     let len = working.len();
     let from = at.marginals;
     let to = at.first;
     fill(working, 0, len, 0);
-    let found = run_passes(working, marks, llrs, at, runs, limit);
+    let found = run_passes(working, marks, llrs, at, &triples[..used], limit);
     pack(output, &working[from..to]);
     fill(working, 0, len, 0);
     found
+}
+
+// The decoder over the runs of a code, with a byte of 0 for each check.
+fn decode_code(
+    code: usize,
+    at: Layout,
+    marks: &mut [u8],
+    llrs: &[i8],
+    output: &mut [u8],
+    working: &mut [i8],
+    limit: usize,
+) -> Ended
+    requires { ⌜ Lent code (length (now llrs)) (length (now output)) (length (now working)) × ((at ≡ layoutOf code) × (now marks ≡ replicate (at .checks) 0)) ⌝ }
+    ensures { λ r. ⌜ left (ending (r .success) (r .iters)) (now (output .exit)) (now (working .exit)) [] ≡ finishedAs i8 (decoded i8 code (now (llrs .entry)) limit) (length (now (working .entry))) 0 ⌝ }
+{
+    let runs = runs_of(code);
+    let used = 3 * runs.count;
+    decode_runs(marks, &runs.triples, used, at, llrs, output, working, limit)
 }
 
 // The decoder on buffers of the right lengths. A byte for each check is its own; the sign buffer is only cleared.
@@ -63,20 +83,9 @@ fn decode(
 {
     let at = layout_of(code);
     let checks = at.checks;
-    let runs = runs_of(code);
-    let triples = runs.triples;
-    let used = 3 * runs.count;
     let mut marks = [0u8; MAX_CHECKS];
     bits::clear(working_u8);
-    decode_runs(
-        &mut marks[..checks],
-        &triples[..used],
-        at,
-        llrs,
-        output,
-        working,
-        limit,
-    )
+    decode_code(code, at, &mut marks[..checks], llrs, output, working, limit)
 }
 
 // Min-sum on confidences of 8 bits, at most limit passes: slower than bit flipping, with more memory, and better where the receiver knows

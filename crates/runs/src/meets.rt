@@ -1,6 +1,7 @@
 // Whether a word meets every parity equation of a code.
 ghost use mathlib.Core.Path.{_≡_};
-ghost use lib.ListN.{length};
+ghost use Prim.Native.Nat.{_≤_};
+ghost use lib.ListN.{length, take};
 ghost use Rattle.maths.specs.Bits.{bitAt};
 ghost use Rattle.bits.specs.Packed.{unpacked};
 ghost use Rattle.runs.specs.Runs.{run, laid};
@@ -58,11 +59,13 @@ pub fn syndrome(triples: &[u16], bits: &[u8], checks: &mut [u8])
     }
 }
 
-fn all_met(word: &[u8], triples: &[u16], bits: &mut [u8], checks: &mut [u8]) -> bool
-    ensures { λ r. ⌜ r ≡ noneBroken (laid (length (now (checks .entry))) (length (now (bits .entry))) (now (triples .entry))) (length (now (checks .entry))) (wordOf (unpacked (now (word .entry)) (now (bits .entry)))) ⌝ }
+// Whether no check is broken, by the first runs of a list: so many of its numbers.
+fn all_met(word: &[u8], triples: &[u16], used: usize, bits: &mut [u8], checks: &mut [u8]) -> bool
+    requires { ⌜ used ≤ length (now triples) ⌝ }
+    ensures { λ r. ⌜ r ≡ noneBroken (laid (length (now (checks .entry))) (length (now (bits .entry))) (take used (now (triples .entry)))) (length (now (checks .entry))) (wordOf (unpacked (now (word .entry)) (now (bits .entry)))) ⌝ }
 {
     bits::unpack(word, bits);
-    syndrome(triples, bits, checks);
+    syndrome(&triples[..used], bits, checks);
     bits::largest(checks) == 0
 }
 
@@ -76,9 +79,8 @@ fn word_meets(code: usize, row: CodeParams, word: &[u8]) -> bool
     let mut bits = [0u8; MAX_BITS];
     let mut checks = [0u8; MAX_CHECKS];
     let runs = runs_of(code);
-    let end = 3 * runs.count;
-    let triples = runs.triples;
-    all_met(word, &triples[..end], &mut bits[..n], &mut checks[..m])
+    let used = 3 * runs.count;
+    all_met(word, &runs.triples, used, &mut bits[..n], &mut checks[..m])
 }
 
 // Whether a word of (n+p)/8 bytes meets every equation of a code.

@@ -6,5 +6,5 @@ pub decode-bits-spec : {M : Type 1} → statement M
 decode-bits-spec =
     tie.close
     (tie.spec
-    (λ c κs. (search decodes, search decodes, search decodes)) (λ c κs. (search decodes, search decodes)) (λ c. search decodes)
-    (λ c κs. search decodes) (λ c. search decodes) (λ c. search decodes) (λ c. search decodes))
+    (λ c. search decodes) (λ c κs. (search decodes, search decodes, search decodes)) (λ c. search decodes) (λ c κs. (search decodes, search decodes))
+    (λ c. search decodes) (λ c κs. search decodes) (λ c. search decodes) (λ c. search decodes) (λ c. search decodes))

@@ -7,5 +7,4 @@ decode-word-spec =
     tie.close
     (tie.spec
     (λ c. search decoding) (λ c. search decoding) (λ c κs. search decoding) (λ c. search decoding) (λ c. search decoding) (λ c. search decoding)
-    (λ c. search decoding) (λ c. search decoding) (λ c κs. (search decoding, search decoding, search decoding)) (λ c. search decoding)
-    (λ c. search decoding))
+    (λ c κs. (search decoding, search decoding, search decoding, search decoding)) (λ c. search decoding) (λ c. search decoding))

@@ -6,4 +6,6 @@ pub decode-runs-spec : {M : Type 1} → statement M
 decode-runs-spec =
     tie.close
     (tie.spec
-    (λ c κs. search decodes) (λ c κs. (search decodes, search decodes)) (λ c. search decodes) (λ c. search decodes) (λ c. search decodes) (λ c κs. search decodes) (λ c κs. search decodes) (λ c. search decodes) (λ c. search decodes) (λ c. search decodes) (λ c. search decodes))
+    (λ c κs. search decodes) (λ c. search decodes) (λ c κs. (search decodes, search decodes)) (λ c. search decodes) (λ c. search decodes)
+    (λ c. search decodes) (λ c κs. search decodes) (λ c κs. search decodes) (λ c. search decodes) (λ c. search decodes) (λ c. search decodes)
+    (λ c. search decodes))

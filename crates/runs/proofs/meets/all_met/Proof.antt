@@ -6,4 +6,4 @@ pub all-met-spec : {M : Type 1} → statement M
 all-met-spec =
     tie.close
     (tie.spec
-    (λ c κs. search meeting) (λ c κs. search meeting) (λ c κs. search meeting) (λ c. search meeting) (λ c. search meeting) (λ c. search meeting))
+    (λ c κs. search meeting) (λ c. search meeting) (λ c κs. search meeting) (λ c κs. search meeting) (λ c. search meeting) (λ c. search meeting) (λ c. search meeting))

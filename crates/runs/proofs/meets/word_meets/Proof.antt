@@ -7,4 +7,4 @@ word-meets-spec =
     tie.close
     (tie.spec
     (λ c. search meeting) (λ c. search meeting) (λ c κs. search meeting) (λ c. search meeting) (λ c. search meeting) (λ c. search meeting)
-    (λ c. search meeting) (λ c. search meeting) (λ c. search meeting) (λ c. search meeting) (λ c κs. search meeting) (λ c. search meeting))
+    (λ c. search meeting) (λ c. search meeting) (λ c κs. search meeting) (λ c. search meeting))
