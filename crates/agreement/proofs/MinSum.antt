@@ -24,7 +24,7 @@ use Rattle.min_sum.specs.Confidence.{Confidence, Steady, Within, whole}
 use Rattle.min_sum.specs.MinSum.{Messages, hardBits, start, pass, met, turn, decoded}
 use Rattle.min_sum.specs.Hard.{toHard, toLlrs}
 use Rattle.min_sum.specs.Outcomes.{Outcome, toldSoft, Written, toLlrsOutcome}
-use Rattle.min_sum.specs.Working.{Lent}
+use Rattle.min_sum.specs.Layouts.{Lent}
 use Rattle.min_sum.proofs.Answers.{decode-lent, decode-refused}
 use Rattle.min_sum.proofs.Conversions.{llrs-hard}
 use Rattle.codes.proofs.Codes.{roomy}

@@ -14,7 +14,8 @@ use Rattle.runs.specs.Runs.{Run, runEdges}
 use Rattle.min_sum.specs.declared.layout.Layout.{Layout}
 use Rattle.min_sum.specs.Confidence.{Confidence}
 use Rattle.min_sum.specs.MinSum.{numbered}
-use Rattle.min_sum.specs.Working.{readyFor, Buffers, buffers, exchange, addAt, takeAt, takenAll, exchanged, Room}
+use Rattle.min_sum.specs.Layouts.{readyFor, Room}
+use Rattle.min_sum.specs.Working.{Buffers, buffers, exchange, addAt, takeAt, takenAll, exchanged}
 use Rattle.min_sum.proofs.Fitting.{ready-room, ready-rest}
 
 pub room-kept : (l : Layout) (n m i j : ℕ) → Room l n m → i ≡ n → j ≡ m → Room l i j

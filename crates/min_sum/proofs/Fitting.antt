@@ -16,7 +16,7 @@ use Rattle.maths.proofs.Tests.{both-assoc, both-first, both-second, both-true, 
 use Rattle.runs.specs.Runs.{Run, run, runEdges, readRuns, within, room}
 use Rattle.runs.proofs.Sweep.{read-length, run-read}
 use Rattle.min_sum.specs.declared.layout.Layout.{Layout}
-use Rattle.min_sum.specs.Working.{makeUp, liesIn, readyFor, LookedAt, Room, Sized, Rest}
+use Rattle.min_sum.specs.Layouts.{makeUp, liesIn, readyFor, LookedAt, Room, Sized, Rest}
 use Rattle.min_sum.proofs.Links.{runs-length}
 
 pub both-left-true : (a b : Bool) → a ≡ true → b ≡ both a b

@@ -28,7 +28,8 @@ use Rattle.min_sum.specs.declared.layout.Layout.{Layout}
 use Rattle.min_sum.specs.Confidence.{Confidence}
 use Rattle.min_sum.specs.MinSum.{Link, link, numbered, turn}
 use Rattle.min_sum.specs.Hard.{toLlrs}
-use Rattle.min_sum.specs.Working.{linkAt, runLinks, buffers, addAt, takeAt, held, Room, Inside, Rest, Sized}
+use Rattle.min_sum.specs.Layouts.{Room, Inside, Rest, Sized}
+use Rattle.min_sum.specs.Working.{linkAt, runLinks, buffers, addAt, takeAt, held}
 use Rattle.min_sum.proofs.Signed.{back}
 use Rattle.runs.proofs.Sweep.{read-length}
 use Rattle.min_sum.proofs.Links.{inside-one, turn-inside, turn-rest, turn-fold, end-fold}

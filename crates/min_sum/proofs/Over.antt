@@ -8,7 +8,8 @@ use Rattle.runs.specs.Runs.{Run, runEdges}
 use Rattle.min_sum.specs.declared.layout.Layout.{Layout}
 use Rattle.min_sum.specs.Confidence.{Confidence}
 use Rattle.min_sum.specs.MinSum.{Link, numbered, addMessage}
-use Rattle.min_sum.specs.Working.{held, Buffers, addAt, takeAt, Sized, Rest}
+use Rattle.min_sum.specs.Layouts.{Sized, Rest}
+use Rattle.min_sum.specs.Working.{held, Buffers, addAt, takeAt}
 use Rattle.min_sum.proofs.Checked.{heldChecked, takeChecked}
 use Rattle.min_sum.proofs.Held.{added, taken}
 use Rattle.min_sum.proofs.Links.{In, each-inside, fold-kept, fold-held}

@@ -5,7 +5,7 @@ ghost use lib.Dec.{leb};
 ghost use lib.ListN.{length, getD};
 ghost use Rattle.maths.specs.Tests.{both};
 ghost use Rattle.runs.specs.Runs.{run, readRuns};
-ghost use Rattle.min_sum.specs.Working.{layoutOf, liesIn, makeUp, readyFor, LookedAt};
+ghost use Rattle.min_sum.specs.Layouts.{layoutOf, liesIn, makeUp, readyFor, LookedAt};
 use codes::params;
 use codes::parity_iter::wide;
 use runs::TRIPLES;

@@ -8,7 +8,8 @@ ghost use Rattle.report.specs.Report.{ending};
 ghost use Rattle.min_sum.specs.Confidence.{i8};
 ghost use Rattle.min_sum.specs.MinSum.{decoded};
 ghost use Rattle.min_sum.specs.Outcomes.{left, finishedAs, decodeOutcome};
-ghost use Rattle.min_sum.specs.Working.{ranOver, layoutOf, Sized, Ready, Lent};
+ghost use Rattle.min_sum.specs.Layouts.{layoutOf, Sized, Ready, Lent};
+ghost use Rattle.min_sum.specs.Working.{ranOver};
 
 mod passes;
 
