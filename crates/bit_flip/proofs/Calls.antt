@@ -106,7 +106,7 @@ module _ (code : ℕ) (row : CodeParams) (input working : ℕ) (a : Accepted cod
   sent-low = rw (bits-are, a .is-row) (omega arith)
 
   checks-are : length (zeros maxChecks (row .n + row .«punctured_bits» - row .k)) ≡ checksIn code
-  checks-are = checks-lent code row (a .is-row) (a .known)
+  checks-are = checks-lent code row (a .is-row)
 
   module _ (q : Runs) (e : q ≡ runsOf code) where
     edges-are : laid (length (zeros maxChecks (row .n + row .«punctured_bits» - row .k))) working (take (3 * q .count) (q .triples)) ≡ edges code

@@ -16,42 +16,64 @@ use Rattle.codes.specs.declared.«parity_iter».Block.{Block}
 use Rattle.codes.specs.declared.«parity_iter».Block.the-variants.{Ends, Empty, Identity, Permutation}
 use Rattle.tables.specs.Choice.{listed}
 use Rattle.tables.specs.Tables.{prototypes}
-use Rattle.codes.specs.Codes.{codes, Known, known, paramsOf, tcCodes, TC, TM, rows, row, rowOf, bitsIn, checksIn, circulantOf, tables, tablesOf, matrixOf, prototypeOf, maxBits, maxBlock, maxChecks}
+use Rattle.codes.specs.Codes.{codes, Known, known, paramsOf, tcCodes, TC, TM, rows, row, rowOf, bitsIn, checksIn, circulantOf, tables, tablesOf, matrixOf, prototypeOf, maxBlock, maxSent, maxSentBytes, maxBits, maxBytes, maxChecks, maxSoftWorking, maxSigns}
 use Rattle.codes.specs.Blocks.{byteAt, blockOf, cellBlocks, rowBlocks, lastRows}
 use Rattle.codes.specs.Edges.{edgeAt, blockEdges, blocksOf, edges}
-use Rattle.codes.specs.Sound.{BlockSize, Small, Roomy}
+use Rattle.codes.specs.Sound.{BlockSize, Small, Bounded, Roomy}
 
 -- a length of every row, and of the zeros of a code that is not known, is at most so much
-pub row-most : (length : CodeParams → ℕ) (most : ℕ) → T (leb (length (row 0 0 0 0 0 0)) most) → T (all (λ r. leb (length r) most) rows)
+row-most : (length : CodeParams → ℕ) (most : ℕ) → T (leb (length (row 0 0 0 0 0 0)) most) → T (all (λ r. leb (length r) most) rows)
     → (code : ℕ) → length (rowOf code) ≤ most
 row-most length most z h code = leb→le (length (rowOf code)) most (all-anywhere (λ r. leb (length r) most) (row 0 0 0 0 0 0) z rows h code)
 
--- a number of every known code is at least so much
-least : (f : ℕ → ℕ) (n : ℕ) → T (below codes (λ c. leb n (f c))) → (code : ℕ) → Known code → n ≤ f code
-least f n t code h = leb→le n (f code) (below-at codes (λ c. leb n (f c)) t code h)
+-- one number of every known code is at most another
+most : (f g : ℕ → ℕ) → T (below codes (λ c. leb (f c) (g c))) → (code : ℕ) → Known code → f code ≤ g code
+most f g t code h = leb→le (f code) (g code) (below-at codes (λ c. leb (f c) (g c)) t code h)
 
 -- the facts about the rows, each by one test of them all
+pub bounded : (code : ℕ) → Bounded (rowOf code)
+unfolding rows
+bounded code =
+    record {
+      sent = row-most (λ r. r .n) maxSent tt tt code;
+      sent-bytes = row-most (λ r. r .n / 8) maxSentBytes tt tt code;
+      bits = row-most (λ r. r .n + r .«punctured_bits») maxBits tt tt code;
+      data-low = omega (arith, row-most (λ r. r .k - (r .n + r .«punctured_bits»)) 0 tt tt code);
+      checks = row-most (λ r. r .n + r .«punctured_bits» - r .k) maxChecks tt tt code;
+      messages = row-most (λ r. 2 * r .«paritycheck_sum» + (r .n + r .«punctured_bits») + (r .n + r .«punctured_bits» - r .k)) maxSoftWorking tt tt code;
+      output = row-most (λ r. r .«output_len») maxBytes tt tt code;
+      flip-working = row-most (λ r. r .«decode_bf_working_len») maxBits tt tt code;
+      soft-working = row-most (λ r. r .«decode_ms_working_len») maxSoftWorking tt tt code;
+      signs = row-most (λ r. r .«decode_ms_working_u8_len») maxSigns tt tt code;
+    }
+
 pub roomy : (code : ℕ) → Known code → Roomy (rowOf code)
 unfolding rows
 roomy code h =
     record {
-      bits = row-most (λ r. r .n + r .«punctured_bits») maxBits tt tt code;
-      checks = row-most (λ r. r .n + r .«punctured_bits» - r .k) maxChecks tt tt code;
       block = record {
-        low = least (λ c. rowOf c .«submatrix_size») 16 tt code h;
+        low = most (λ c. 16) (λ c. rowOf c .«submatrix_size») tt code h;
         high = row-most (λ r. r .«submatrix_size») maxBlock tt tt code;
         four = below-eq codes (λ c. rowOf c .«submatrix_size» % 4) (λ c. 0) tt code h;
       };
-      k-low = leb→le (rowOf code .k) (rowOf code .n) (below-at codes (λ c. leb (rowOf c .k) (rowOf c .n)) tt code h);
+      rows-fit = most checksIn (λ c. 4 * rowOf c .«submatrix_size») tt code h;
+      columns-fit = most bitsIn (λ c. 11 * rowOf c .«submatrix_size») tt code h;
+      k-low = most (λ c. rowOf c .k) (λ c. rowOf c .n) tt code h;
       data-bytes = below-eq codes (λ c. 8 * (rowOf c .k / 8)) (λ c. rowOf c .k) tt code h;
       sent = below-eq codes (λ c. 8 * (rowOf c .n / 8)) (λ c. rowOf c .n) tt code h;
       whole = below-eq codes (λ c. 8 * rowOf c .«output_len») bitsIn tt code h;
       signs = below-eq codes (λ c. 8 * rowOf c .«decode_ms_working_u8_len») checksIn tt code h;
       working = below-eq codes (λ c. rowOf c .«decode_bf_working_len») bitsIn tt code h;
       soft-working = below-eq codes (λ c. rowOf c .«decode_ms_working_len») (λ c. 2 * rowOf c .«paritycheck_sum» + bitsIn c + 2 * checksIn c) tt code h;
-      circulant = least circulantOf 8 tt code h;
+      circulant = most (λ c. 8) circulantOf tt code h;
+      circulant-bytes = below-eq codes (λ c. circulantOf c / 8 * 8) circulantOf tt code h;
+      block-circulants = below-eq codes (λ c. rowOf c .«submatrix_size» / circulantOf c * circulantOf c) (λ c. rowOf c .«submatrix_size») tt code h;
       data-circulants = below-eq codes (λ c. rowOf c .k / circulantOf c * circulantOf c) (λ c. rowOf c .k) tt code h;
       parity-circulants = below-eq codes (λ c. (rowOf c .n - rowOf c .k) / circulantOf c * circulantOf c) (λ c. rowOf c .n - rowOf c .k) tt code h;
+      check-circulants = below-eq codes (λ c. checksIn c / circulantOf c * circulantOf c) checksIn tt code h;
+      bit-circulants = below-eq codes (λ c. bitsIn c / circulantOf c * circulantOf c) bitsIn tt code h;
+      parity-low = most (λ c. 8) (λ c. rowOf c .n - rowOf c .k) tt code h;
+      parity-words = below-eq codes (λ c. (rowOf c .n - rowOf c .k) / 64 * 64) (λ c. rowOf c .n - rowOf c .k) tt code h;
     }
 
 pub sized : (code : ℕ) → Known code → BlockSize (rowOf code .«submatrix_size»)

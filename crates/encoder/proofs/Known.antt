@@ -4,11 +4,9 @@ use mathlib.Core.Path.{_≡_, refl, sym, ap, ap₂, _∙_}
 use Prim.Native.Nat.{ℕ, _+_, _-_, _*_, _/_, _%_, _≤_, _<_}
 use native.Mathlib.Omega.{arith}
 use borrow.Author.Needs.{needs}
-use lib.Dec.{leb, leb→le}
 use lib.ListN.{length, take, drop, drop-of-length-le}
 use Rattle.maths.specs.Lists.{span}
 use Rattle.maths.specs.Bits.{bitAt}
-use Rattle.maths.proofs.Tests.{below-at}
 use Rattle.maths.proofs.Lists.{span-same}
 use Rattle.maths.proofs.Bytes.{bitAt-take}
 use Rattle.codes.specs.declared.CodeParams.{CodeParams}
@@ -33,11 +31,11 @@ parts : (code : ℕ) → Known code → (s g : List ℕ) → length s ≡ rowOf 
 unfolding rows generators span
 parts code h s g e words =
     record {
-      some = leb→le 8 (parityBits code) (below-at codes (λ c. leb 8 (parityBits c)) tt code h);
-      bytes = span-same circulantOf (λ c. circulantOf c / 8 * 8) codes refl code h;
+      some = roomy code h .parity-low;
+      bytes = sym (roomy code h .circulant-bytes);
       rows = sym (roomy code h .data-circulants);
       blocks = sym (roomy code h .parity-circulants);
-      words = span-same parityBits (λ c. parityBits c / 64 * 64) codes refl code h;
+      words = sym (roomy code h .parity-words);
       whole = e ∙ bytes-all code h;
       generator = words ∙ span-same (λ c. length (generatorOf c)) (λ c. rowOf c .k / circulantOf c * (parityBits c / 64)) codes refl code h;
     }

@@ -1,10 +1,8 @@
 -- How the sizes of a code's blocks, circulants and bytes go together. Assumes nothing.
-use mathlib.Core.Path.{_≡_}
+use mathlib.Core.Path.{_≡_, sym}
 use Prim.Native.Nat.{ℕ, _-_, _*_, _/_, _%_, _≤_, _<_}
 use native.Mathlib.Omega.{arith}
-use lib.Dec.{leb, leb→le}
-use Rattle.maths.proofs.Tests.{below-at, below-eq}
-use Rattle.codes.specs.Codes.{codes, Known, TC, matrixOf, rowOf, rows, bitsIn, checksIn, circulantOf}
+use Rattle.codes.specs.Codes.{Known, TC, matrixOf, rowOf, bitsIn, checksIn, circulantOf}
 use Rattle.codes.proofs.Codes.{roomy, tc-sent}
 
 abbrev pub sizeOf : ℕ → ℕ
@@ -47,19 +45,18 @@ pub record Sizes (code : ℕ) : Type 0 where
   pub data-fits : rowOf code .k ≤ rowOf code .n
 
 pub sizes : (code : ℕ) → Known code → Sizes code
-unfolding rows
 sizes code h =
     let room = roomy code h in
     record {
       some = omega (arith, room .circulant);
-      whole = below-eq codes sizeOf (λ c. sizeOf c / circulantOf c * circulantOf c) tt code h;
+      whole = sym (room .block-circulants);
       large = omega (arith, room .block .low);
       four = room .block .four;
-      rows-fit = leb→le (checksIn code) (4 * sizeOf code) (below-at codes (λ c. leb (checksIn c) (4 * sizeOf c)) tt code h);
-      columns-fit = leb→le (bitsIn code) (11 * sizeOf code) (below-at codes (λ c. leb (bitsIn c) (11 * sizeOf c)) tt code h);
+      rows-fit = room .rows-fit;
+      columns-fit = room .columns-fit;
       data-blocks = room .data-circulants;
-      check-blocks = below-eq codes (λ c. checkBlocks c * circulantOf c) checksIn tt code h;
-      bit-blocks = below-eq codes (λ c. bitBlocks c * circulantOf c) bitsIn tt code h;
+      check-blocks = room .check-circulants;
+      bit-blocks = room .bit-circulants;
       parity-blocks = room .parity-circulants;
       data-bytes = omega (arith, room .data-bytes);
       parity-bytes = omega (arith, room .data-bytes, room .sent, room .k-low);

@@ -22,14 +22,14 @@ use Rattle.runs.specs.declared.Runs.{Runs}
 use Rattle.codes.specs.declared.CodeParams.{CodeParams}
 use Rattle.codes.specs.declared.ParamsAnswer.{ParamsAnswer}
 use Rattle.codes.specs.Answers.{test, firstOf, orTest, unlike}
-use Rattle.codes.specs.Sound.{Roomy}
+use Rattle.codes.specs.Sound.{Bounded}
 use Rattle.codes.specs.Codes.{Known, known, rowOf, paramsOf, bitsIn, checksIn, maxBits, maxChecks}
 use Rattle.codes.specs.Edges.{Edge, inRange, edges}
 use Rattle.runs.specs.Runs.{runEdges, runs, numbers, runsOf, readRuns, within, laid}
 use Rattle.codes.specs.Equations.{par, Hold, Meets, wordOf}
 use Rattle.runs.specs.Meets.{holds, noneBroken, meetsTest, syndromeOf, meetTests, metOf, Accepted}
 use Rattle.codes.proofs.Answers.{answered, all-passed, passed-known, passed-length}
-use Rattle.codes.proofs.Codes.{roomy}
+use Rattle.codes.proofs.Codes.{bounded, roomy}
 use Rattle.runs.proofs.Flat.{runs-flat, runs-within, run-ranged}
 use Rattle.runs.proofs.Lent.{read-numbers, runs-fit, runs-room, runs-taken}
 
@@ -66,22 +66,22 @@ pub met-by : (ns word bits bits′ checks : List ℕ) (m n n′ r : ℕ) → r �
 unfolding noneBroken
 met-by ns word bits bits′ checks m n n′ r er ec eb en = rw (er, ec, eb, en)
 
--- ---- the row of a known code
-module _ (code : ℕ) (row : CodeParams) (is : row ≡ rowOf code) (known : Known code) where
-  row-roomy : Roomy row
-  row-roomy = rw is (roomy code known)
+-- ---- the row of a code
+module _ (code : ℕ) (row : CodeParams) (is : row ≡ rowOf code) where
+  row-bounded : Bounded row
+  row-bounded = rw is (bounded code)
 
   pub bits-fit : Fits w64 (row .n + row .«punctured_bits»)
-  bits-fit = record { fits = omega (arith, row-roomy .bits) }
+  bits-fit = record { fits = omega (arith, row-bounded .bits) }
 
   pub data-low : row .k ≤ row .n + row .«punctured_bits»
-  data-low = omega (arith, row-roomy .k-low)
+  data-low = row-bounded .data-low
 
   pub bits-few : row .n + row .«punctured_bits» ≤ maxBits
-  bits-few = row-roomy .bits
+  bits-few = row-bounded .bits
 
   pub checks-few : row .n + row .«punctured_bits» - row .k ≤ maxChecks
-  checks-few = row-roomy .checks
+  checks-few = row-bounded .checks
 
   -- as many zeros as it has checks, and as it has bits
   pub checks-lent : length (zeros maxChecks (row .n + row .«punctured_bits» - row .k)) ≡ checksIn code
@@ -97,9 +97,9 @@ pub code-met : (code : ℕ) (row : CodeParams) (word : List ℕ) (q : Runs) (r :
 unfolding meetsTest noneBroken
 code-met code row word q r a eq er =
     let n = row .n + row .«punctured_bits» in
-    let l = bits-lent code row (a .is-row) (a .known) in
+    let l = bits-lent code row (a .is-row) in
     let w : wordOf (unpacked word (zeros maxBits n)) ≡ bitAt word = unpacked-word word (zeros maxBits n) (omega (arith, a .long, l, roomy code (a .known) .whole)) in
-    er ∙ rw (w, l, checks-lent code row (a .is-row) (a .known), runs-taken code q eq, laid-runs code (a .known)) (none-broken (edges code) (checksIn code) (bitAt word))
+    er ∙ rw (w, l, checks-lent code row (a .is-row), runs-taken code q eq, laid-runs code (a .known)) (none-broken (edges code) (checksIn code) (bitAt word))
 
 pub ruleset meeting = (runs-fit, runs-room, lent-long, lent-full, bits-fit, data-low, bits-few, checks-few, met-by, code-met, needs)
 

@@ -3,11 +3,12 @@ ghost use mathlib.Core.Path.{_≡_};
 ghost use Prim.Native.Nat.{_≤_};
 ghost use lib.ListN.{length};
 ghost use lib.IntN.{pos, negsuc};
+ghost use Rattle.codes.specs.Codes.{rowOf};
+ghost use Rattle.codes.specs.Sound.{Bounded};
 ghost use Rattle.encoder.specs.Outcomes.{copyEncodeOutcome};
 ghost use Rattle.bit_flip.specs.Outcome.{outcome};
 ghost use Rattle.min_sum.specs.Outcomes.{toLlrsOutcome};
 ghost use Rattle.sheet_text.specs.Printing.{maxOutput, answerOf};
-ghost use Rattle.sheet.specs.Rooms.{RowOf};
 ghost use Rattle.sheet.specs.Sheet.{reported, encodedText, flippedText, softFrom, encodeSheet, bfSheet, msSheet};
 use codes::ACCEPTED;
 use codes::CodeParams;
@@ -36,7 +37,7 @@ pub(crate) fn print_report(r: Report, output: &[u8]) -> Answer
 }
 
 fn row_of(code: usize) -> CodeParams
-    ensures { λ r. ⌜ RowOf code r ⌝ }
+    ensures { λ r. ⌜ (r ≡ rowOf code) × Bounded r ⌝ }
 {
     params(code).row
 }
