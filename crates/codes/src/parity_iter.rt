@@ -3,7 +3,7 @@ ghost use mathlib.Core.Path.{_≡_};
 ghost use mathlib.Core.List.{[]};
 ghost use Prim.Native.Nat.{_<_, _≤_, _%_};
 ghost use Rattle.codes.specs.Codes.{made, maxBlock};
-ghost use Rattle.codes.specs.Blocks.{blockOf, blocks, cellsFrom, blocksFrom, headOf, nextBlock};
+ghost use Rattle.codes.specs.Blocks.{blockOf, blocks, blocksFrom, headOf, nextBlock};
 ghost use Rattle.codes.specs.Edges.{identityColumn, permutationColumn};
 ghost use Rattle.codes.specs.Walk.{Inside, matrix, remaining, startAt, begunOf, nextOf, nextStep, stepOf, after};
 use crate::ACCEPTED;
@@ -51,42 +51,48 @@ pub fn block_of(byte: u8) -> Block
     }
 }
 
-// A cell asks its layers. Past the last column the next row's first cell is asked.
-fn cell(h: &[[[u8; 11]; 4]; 3], row: usize, col: usize) -> Found
-    requires { ⌜ (row < 4) × (col ≤ 11) ⌝ }
-    ensures { λ r. ⌜ r ≡ headOf (cellsFrom (now (h .entry)) row col) ⌝ }
-{
-    if col < 11 {
-        layer(h, row, col, 0)
-    } else if row < 3 {
-        layer(h, row + 1, 0, 0)
-    } else {
-        Found::Nothing
-    }
-}
-
-// A layer that has edges is the answer; a spent one asks the next layer, or the next cell.
-fn layer(h: &[[[u8; 11]; 4]; 3], row: usize, col: usize, l: usize) -> Found
+// The first block from a layer of a cell on. A layer that has edges is the answer, a spent one asks the next layer; after the last of them, or
+// the byte 0, the next cell is asked, past the last column the next row's first.
+fn block_from(h: &[[[u8; 11]; 4]; 3], row: usize, col: usize, l: usize) -> Found
     requires { ⌜ (row < 4) × (col < 11) ⌝ }
     ensures { λ r. ⌜ r ≡ headOf (blocksFrom (now (h .entry)) row col l) ⌝ }
 {
-    if l >= 3 {
-        return cell(h, row, col + 1);
+    let mut row = row;
+    let mut col = col;
+    let mut l = l;
+    while row < 4 {
+        if l < 3 {
+            match block_of(h[l][row][col]) {
+                Block::Ends => {
+                    l = 3;
+                }
+                Block::Empty => {
+                    l += 1;
+                }
+                Block::Identity(_) => {
+                    return Found::At(Place { row, col, layer: l });
+                }
+                Block::Permutation(_) => {
+                    return Found::At(Place { row, col, layer: l });
+                }
+            }
+        } else {
+            l = 0;
+            col += 1;
+            if col == 11 {
+                col = 0;
+                row += 1;
+            }
+        }
     }
-    let k = block_of(h[l][row][col]);
-    match k {
-        Block::Ends => cell(h, row, col + 1),
-        Block::Empty => layer(h, row, col, l + 1),
-        Block::Identity(_) => Found::At(Place { row, col, layer: l }),
-        Block::Permutation(_) => Found::At(Place { row, col, layer: l }),
-    }
+    Found::Nothing
 }
 
 // The first block of a prototype, and the next one after a place; none where that is no place of a prototype.
 pub fn first_block(h: &[[[u8; 11]; 4]; 3]) -> Found
     ensures { λ r. ⌜ r ≡ headOf (blocks (now (h .entry))) ⌝ }
 {
-    cell(h, 0, 0)
+    block_from(h, 0, 0, 0)
 }
 
 pub fn next_block(h: &[[[u8; 11]; 4]; 3], p: Place) -> Found
@@ -101,7 +107,7 @@ pub fn next_block(h: &[[[u8; 11]; 4]; 3], p: Place) -> Found
     if p.layer >= 3 {
         return Found::Nothing;
     }
-    layer(h, p.row, p.col, p.layer + 1)
+    block_from(h, p.row, p.col, p.layer + 1)
 }
 
 fn identity_column(m: usize, v: usize, i: usize) -> usize
@@ -159,7 +165,7 @@ pub fn iter_paritychecks(code: usize) -> Begun
         let h = prototype_of(code);
         Begun {
             answer: ACCEPTED,
-            walk: start_at(code, cell(&h, 0, 0)),
+            walk: start_at(code, first_block(&h)),
         }
     } else {
         Begun {
@@ -212,7 +218,7 @@ impl ParityIter {
             }
         } else {
             let h = prototype_of(code);
-            start_at(code, layer(&h, row, col, l + 1))
+            start_at(code, block_from(&h, row, col, l + 1))
         }
     }
 

@@ -15,4 +15,4 @@ next-block-spec =
     (λ c.
     let l = c .before .before in
     let t = l .before .before in
-    rw (lt-ltb _ _ (t .before .before .if1 .left), lt-ltb _ _ (t .if2 .left), lt-ltb _ _ (l .if3 .left)) (c .layer .ensures)))
+    rw (lt-ltb _ _ (t .before .before .if1 .left), lt-ltb _ _ (t .if2 .left), lt-ltb _ _ (l .if3 .left)) (c .block-from .ensures)))

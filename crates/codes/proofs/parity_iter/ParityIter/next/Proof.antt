@@ -26,5 +26,5 @@ next-spec =
     simp (le-ltb _ _ (rw (s .pre .1) at (p .before .if1 .left)))
     (c .start-at .ensures
     ∙ ap (startAt _)
-    (c .before .layer .ensures
+    (c .before .block-from .ensures
     ∙ ap (λ (H : List (List (List ℕ))). headOf (blocksFrom H (w .row) (w .col) (w .layer + 1))) (p .prototype-of .ensures)))))
