@@ -3,6 +3,7 @@ ghost use mathlib.Core.Path.{_≡_};
 ghost use Prim.Native.Nat.{_+_, _*_, min};
 use cases::Case;
 
+// The smaller of two: a buffer lends no more than it has.
 pub(crate) fn least(a: usize, b: usize) -> usize
     ensures { λ r. ⌜ r ≡ min a b ⌝ }
 {
@@ -26,6 +27,7 @@ fn joined(low: u8, high: u8) -> usize
     low as usize + 256 * (high as usize)
 }
 
+// The next case's head; zeros past the end of the list.
 pub(crate) fn head(fd: i32) -> Case {
     let mut bytes = [0u8; 5];
     filled(fd, &mut bytes);
