@@ -2,6 +2,7 @@
 ghost use mathlib.Core.Path.{_≡_};
 ghost use Prim.Native.Nat.{_+_, _*_, min};
 use cases::Case;
+use codes::parity_iter::byte;
 
 // The smaller of two: a buffer lends no more than it has.
 pub(crate) fn least(a: usize, b: usize) -> usize
@@ -13,12 +14,6 @@ pub(crate) fn least(a: usize, b: usize) -> usize
 // Whether a buffer could be filled from the list.
 pub(crate) fn filled(fd: i32, buf: &mut [u8]) -> bool {
     io::read_full(fd, buf) == buf.len()
-}
-
-pub(crate) fn wide(x: u8) -> usize
-    ensures { λ r. ⌜ r ≡ x ⌝ }
-{
-    x as usize
 }
 
 fn joined(low: u8, high: u8) -> usize
@@ -33,10 +28,10 @@ pub(crate) fn head(fd: i32) -> Case {
     filled(fd, &mut bytes);
     Case {
         op: bytes[0],
-        code: wide(bytes[1]),
-        limit: wide(bytes[2]),
+        code: byte(bytes[1]),
+        limit: byte(bytes[2]),
         success: bytes[3] == 1,
-        iters: wide(bytes[4]),
+        iters: byte(bytes[4]),
         text: joined(bytes[1], bytes[2]),
         answer: joined(bytes[3], bytes[4]),
     }

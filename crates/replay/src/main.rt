@@ -9,11 +9,11 @@ use cases::written_len;
 use codes::CodeParams;
 use codes::MAX_SENT;
 use codes::params;
+use codes::parity_iter::byte;
 use libc::STDOUT_FILENO;
 use list::filled;
 use list::head;
 use list::least;
-use list::wide;
 use operations::answers;
 use operations::bit_flipping;
 use operations::encoders;
@@ -75,7 +75,7 @@ fn goes_on(fd: i32, i: usize) -> bool {
         return true;
     }
     say(i, b" cases agree, the next differs: operation ");
-    say(wide(c.op), b", code ");
+    say(byte(c.op), b", code ");
     say(c.code, b"\n");
     false
 }
