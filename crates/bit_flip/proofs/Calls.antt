@@ -29,10 +29,11 @@ use Rattle.codes.specs.Edges.{Edge, edges}
 use Rattle.codes.specs.Equations.{wordOf}
 use Rattle.codes.proofs.Answers.{Passed, answered, all-passed, passed-known, passed-length}
 use Rattle.codes.proofs.Codes.{roomy}
+use Rattle.codes.proofs.Bounds.{bounds}
 use Rattle.runs.specs.declared.Runs.{Runs}
 use Rattle.runs.specs.Runs.{runsOf, laid}
 use Rattle.runs.proofs.Lent.{runs-fit, runs-room, runs-taken}
-use Rattle.runs.proofs.Parity.{laid-runs, zeros, bits-fit, data-low, checks-few, checks-lent}
+use Rattle.runs.proofs.Parity.{laid-runs, zeros, checks-lent}
 use Rattle.runs.proofs.Degrees.{few-edges}
 use Rattle.report.specs.declared.Report.{Report}
 use Rattle.report.specs.Report.{refusal, ending}
@@ -131,7 +132,7 @@ decoded-by code limit t row s o w o′ w′ r a d eo ew l lo =
     let p = packed-whole w o (omega (arith, lo, b, roomy code (a .known) .whole)) in
     rw (ew, eo, p, b, lo, ← d)
 
-pub ruleset decoding = (runs-fit, runs-room, lent-long, lent-full, bits-fit, data-low, checks-few, whole-input, sent-low, few-lent, word-decoded, decoded-by, needs)
+pub ruleset decoding = (runs-fit, runs-room, lent-long, lent-full, bounds, whole-input, sent-low, few-lent, word-decoded, decoded-by, needs)
 
 -- ---- the answer
 pub answer-is : (code i o w : ℕ) (p : ParamsAnswer) (a b c : ℕ) → c ≡ orTest b (test (unlike w (p .row .«decode_bf_working_len»)) 4) → b ≡ orTest a (test (unlike o (p .row .«output_len»)) 3)

@@ -17,8 +17,7 @@ use mir.Facts.{toZ-ofZ}
 use Rattle.maths.specs.Tests.{Agrees}
 use Rattle.maths.specs.Lists.{span}
 use Rattle.maths.proofs.Tests.{denies}
-use Rattle.maths.proofs.Lists.{span-length}
-use Rattle.maths.proofs.Slices.{span-get}
+use Rattle.maths.proofs.Slices.{span-map}
 use Rattle.maths.proofs.Writing.{Written, written-none, written-more, written-all}
 use Rattle.cases.specs.Cases.{signed, softened}
 
@@ -50,9 +49,7 @@ module _ (bytes : List ℕ) where
   mapped-at i = List·getD-map signed bytes i 0
 
   mapped : (n : ℕ) → n ≡ length bytes → span (signedAt bytes) 0 n ≡ map signed bytes
-  mapped n e =
-      ext-getD (pos 0) (span (signedAt bytes) 0 n) (map signed bytes) (span-length _ 0 n ∙ e ∙ sym (length-map bytes signed))
-      (λ i h. span-get (signedAt bytes) (pos 0) n i (let k : i < n = rw (span-length (signedAt bytes) 0 n) at h in k) ∙ sym (mapped-at i))
+  mapped n e = rw e (span-map 0 signed bytes)
 
 -- ---- bytes are read as confidences: the first i places are written
 pub record Softening (bytes : List ℕ) (soft₀ : List ℤ) (i : ℕ) (soft : List ℤ) : Type 0 where

@@ -34,7 +34,7 @@ pub record Bounded (r : CodeParams) : Type 0 where
   pub signs : r .«decode_ms_working_u8_len» ≤ maxSigns
 
 -- what holds of every known row: its bytes are whole, the working buffers have a number for each bit, or two for each edge, one for each bit
--- and two for each check; blocks, data, parity, checks and bits are made of circulants, those of bytes, and parity of words
+-- and two for each check; blocks, data, parity, checks and bits are made of circulants, those of bytes, and parity, which is not empty, of words
 pub record Roomy (r : CodeParams) : Type 0 where
   pub block : BlockSize (r .«submatrix_size»)
   -- a matrix has at most 4 by 11 blocks

@@ -51,8 +51,8 @@ pub fn block_of(byte: u8) -> Block
     }
 }
 
-// The first block from a layer of a cell on. A layer that has edges is the answer, a spent one asks the next layer; after the last of them, or
-// the byte 0, the next cell is asked, past the last column the next row's first.
+// The first block from a layer of a cell on. A layer that has edges is the answer, one without asks the next; after the last of them, or the
+// byte 0, the next cell is asked, past the last column the next row's first.
 fn block_from(h: &[[[u8; 11]; 4]; 3], row: usize, col: usize, l: usize) -> Found
     requires { ⌜ (row < 4) × (col < 11) ⌝ }
     ensures { λ r. ⌜ r ≡ headOf (blocksFrom (now (h .entry)) row col l) ⌝ }

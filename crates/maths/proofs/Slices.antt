@@ -59,7 +59,7 @@ span-padded l n h = sym (span-is 0 (l ++ zeros) (λ i. getD l i 0) n (length-app
             rw (← e) (getD-append-add l zeros (i - length l) 0 ∙ getD-replicate {A = ℕ} (n - length l) (i - length l) 0 0 (omega arith))
             ∙ sym (List·getD-eq-default l 0 (omega arith))
 
-pub span-map : {A : Type 0} (d : A) (g : A → A) (l : List A) → span (λ i. g (getD l i d)) 0 (length l) ≡ map g l
+pub span-map : {A B : Type 0} (d : A) (g : A → B) (l : List A) → span (λ i. g (getD l i d)) 0 (length l) ≡ map g l
 span-map d g l = sym (map-span (λ i. getD l i d) g 0 (length l)) ∙ ap (map g) (span-again d l)
 
 -- a list of one element many times, read past its end too

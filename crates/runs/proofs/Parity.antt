@@ -2,14 +2,12 @@
 use mathlib.Core.Bool.{Bool, true, false}
 use mathlib.Core.List.{List}
 use mathlib.Core.Path.{_≡_, sym, _∙_}
-use Prim.Native.Nat.{ℕ, _+_, _-_, _*_, _%_, _≤_}
+use Prim.Native.Nat.{ℕ, _+_, _-_, _*_, _%_}
 use native.Mathlib.Omega.{arith}
 use borrow.Author.Needs.{needs}
 use borrow.Author.Tests.{eqb-true, eq-eqb, ne-eqb}
 use lib.Dec.{T, eqb}
 use lib.ListN.{length, take, replicate}
-use mir.Syntax.{w64}
-use mir.Val.{Fits}
 use Rattle.maths.specs.Tests.{all}
 use Rattle.maths.specs.Bits.{bitAt}
 use Rattle.maths.specs.Lists.{keep, largestOf}
@@ -22,14 +20,14 @@ use Rattle.runs.specs.declared.Runs.{Runs}
 use Rattle.codes.specs.declared.CodeParams.{CodeParams}
 use Rattle.codes.specs.declared.ParamsAnswer.{ParamsAnswer}
 use Rattle.codes.specs.Answers.{test, firstOf, orTest, unlike}
-use Rattle.codes.specs.Sound.{Bounded}
 use Rattle.codes.specs.Codes.{Known, known, rowOf, paramsOf, bitsIn, checksIn, maxBits, maxChecks}
 use Rattle.codes.specs.Edges.{Edge, inRange, edges}
 use Rattle.runs.specs.Runs.{runEdges, runs, numbers, runsOf, readRuns, within, laid}
 use Rattle.codes.specs.Equations.{par, Hold, Meets, wordOf}
 use Rattle.runs.specs.Meets.{holds, noneBroken, meetsTest, syndromeOf, meetTests, metOf, Accepted}
 use Rattle.codes.proofs.Answers.{answered, all-passed, passed-known, passed-length}
-use Rattle.codes.proofs.Codes.{bounded, roomy}
+use Rattle.codes.proofs.Codes.{roomy}
+use Rattle.codes.proofs.Bounds.{row-bounded, bounds}
 use Rattle.runs.proofs.Flat.{runs-flat, runs-within, run-ranged}
 use Rattle.runs.proofs.Lent.{read-numbers, runs-fit, runs-room, runs-taken}
 
@@ -68,27 +66,12 @@ met-by ns word bits bits′ checks m n n′ r er ec eb en = rw (er, ec, eb, en)
 
 -- ---- the row of a code
 module _ (code : ℕ) (row : CodeParams) (is : row ≡ rowOf code) where
-  row-bounded : Bounded row
-  row-bounded = rw is (bounded code)
-
-  pub bits-fit : Fits w64 (row .n + row .«punctured_bits»)
-  bits-fit = record { fits = omega (arith, row-bounded .bits) }
-
-  pub data-low : row .k ≤ row .n + row .«punctured_bits»
-  data-low = row-bounded .data-low
-
-  pub bits-few : row .n + row .«punctured_bits» ≤ maxBits
-  bits-few = row-bounded .bits
-
-  pub checks-few : row .n + row .«punctured_bits» - row .k ≤ maxChecks
-  checks-few = row-bounded .checks
-
   -- as many zeros as it has checks, and as it has bits
   pub checks-lent : length (zeros maxChecks (row .n + row .«punctured_bits» - row .k)) ≡ checksIn code
-  checks-lent = sym (lent-full maxChecks 0 _ checks-few) ∙ rw is
+  checks-lent = sym (lent-full maxChecks 0 _ (row-bounded code row is .checks)) ∙ rw is
 
   bits-lent : length (zeros maxBits (row .n + row .«punctured_bits»)) ≡ bitsIn code
-  bits-lent = sym (lent-full maxBits 0 _ bits-few) ∙ rw is
+  bits-lent = sym (lent-full maxBits 0 _ (row-bounded code row is .bits)) ∙ rw is
 
 pub code-met : (code : ℕ) (row : CodeParams) (word : List ℕ) (q : Runs) (r : Bool) → Accepted code row (length word) → q ≡ runsOf code
     → (let checks = zeros maxChecks (row .n + row .«punctured_bits» - row .k) in
@@ -101,7 +84,7 @@ code-met code row word q r a eq er =
     let w : wordOf (unpacked word (zeros maxBits n)) ≡ bitAt word = unpacked-word word (zeros maxBits n) (omega (arith, a .long, l, roomy code (a .known) .whole)) in
     er ∙ rw (w, l, checks-lent code row (a .is-row), runs-taken code q eq, laid-runs code (a .known)) (none-broken (edges code) (checksIn code) (bitAt word))
 
-pub ruleset meeting = (runs-fit, runs-room, lent-long, lent-full, bits-fit, data-low, bits-few, checks-few, met-by, code-met, needs)
+pub ruleset meeting = (runs-fit, runs-room, lent-long, lent-full, bounds, met-by, code-met, needs)
 
 -- ---- the answer
 module _ (code : ℕ) (word : List ℕ) (p : ParamsAnswer) (a : ℕ) (t : a ≡ orTest (p .answer) (test (unlike (length word) (p .row .«output_len»)) 2)) (e : p ≡ paramsOf code) where
