@@ -5,7 +5,7 @@ ghost use lib.ListN.{length};
 ghost use Rattle.encoder.specs.Rotation.{rotated};
 
 // Rotates the len bytes from at on left by one bit, from the last byte to the first.
-pub(crate) fn rotate_block(codeword: &mut [u8], at: usize, len: usize)
+fn rotate_bytes(codeword: &mut [u8], at: usize, len: usize)
     requires { ⌜ (1 ≤ len) × (at + len ≤ length (now codeword)) ⌝ }
     ensures { λ _. ⌜ now (codeword .exit) ≡ rotated (now (codeword .entry)) at len ⌝ }
 {
@@ -16,5 +16,19 @@ pub(crate) fn rotate_block(codeword: &mut [u8], at: usize, len: usize)
         let x = codeword[at + i];
         codeword[at + i] = (x << 1) | carry;
         carry = x >> 7;
+    }
+}
+
+// The same, with the lengths that the codes' blocks have said apart: where the compiler knows the length, the loop becomes a few lines over the whole block at once.
+pub(crate) fn rotate_block(codeword: &mut [u8], at: usize, len: usize)
+    requires { ⌜ (1 ≤ len) × (at + len ≤ length (now codeword)) ⌝ }
+    ensures { λ _. ⌜ now (codeword .exit) ≡ rotated (now (codeword .entry)) at len ⌝ }
+{
+    match len {
+        2 => rotate_bytes(codeword, at, 2),
+        4 => rotate_bytes(codeword, at, 4),
+        8 => rotate_bytes(codeword, at, 8),
+        16 => rotate_bytes(codeword, at, 16),
+        _ => rotate_bytes(codeword, at, len),
     }
 }
