@@ -16,4 +16,4 @@ rotate-block-spec =
     (λ c. search needs) (λ c. search (turned-known, needs))
     (λ c. search needs) (λ c. search (turned-known, needs))
     (λ c. search needs) (λ c. search (turned-known, needs))
-    (λ c. search needs) (λ c. search (turned-known, needs)))
+    (λ c. search needs) (λ c. search needs))
