@@ -19,7 +19,7 @@ fn rotate_bytes(codeword: &mut [u8], at: usize, len: usize)
     }
 }
 
-// The same. The lengths of short blocks stand apart: of a loop whose length it knows the compiler makes one step over the whole block.
+// The same. The lengths of short blocks stand apart: a loop whose length the compiler knows becomes straight lines, over the whole block at once where that pays.
 pub(crate) fn rotate_block(codeword: &mut [u8], at: usize, len: usize)
     requires { ⌜ (1 ≤ len) × (at + len ≤ length (now codeword)) ⌝ }
     ensures { λ _. ⌜ now (codeword .exit) ≡ rotated (now (codeword .entry)) at len ⌝ }
