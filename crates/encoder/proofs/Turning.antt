@@ -120,6 +120,6 @@ module _ (s : List ℕ) (at len : ℕ) (some : 1 ≤ len) (fit : at + len ≤ le
       let p : i ≡ i - 1 + 1 = omega arith in
       turning-one (i - 1) x (subst (Turning s at len t carry) p r) e low
 
--- a block whose length is also called n
+-- the same of a length that is known to be n
 pub turned-known : (s : List ℕ) (at : ℕ) {t : List ℕ} {len n : ℕ} → len ≡ n → t ≡ rotated s at n → t ≡ rotated s at len
 turned-known s at e f = rw e f
