@@ -6,7 +6,7 @@ pub mod archive;
 pub mod sheet;
 
 /// The codes by number.
-pub const CODES: [LDPCCode; 7] = [
+pub const CODES: [LDPCCode; 9] = [
     LDPCCode::TC128,
     LDPCCode::TC256,
     LDPCCode::TC512,
@@ -14,6 +14,8 @@ pub const CODES: [LDPCCode; 7] = [
     LDPCCode::TM1536,
     LDPCCode::TM2048,
     LDPCCode::TM5120,
+    LDPCCode::TM6144,
+    LDPCCode::TM8192,
 ];
 
 /// A generator of numbers that are the same in every run.

@@ -1,4 +1,4 @@
-//! The bench sheet of document 01 over the Rust: the text of the answer to a text.
+//! The bench sheet of documents 01 and 02 over the Rust: the text of the answer to a text.
 use crate::CODES;
 use labrador_ldpc::LDPCCode;
 
@@ -75,6 +75,8 @@ pub fn answer(text: &[u8]) -> String {
         None => print(9, false, 0, &[]),
         Some(sheet) => match CODES.get(sheet.code) {
             None => print(1, false, 0, &[]),
+            // before all lengths: its buffers are too much for a sheet
+            Some(LDPCCode::TM8192) if sheet.op == "ms" => print(14, false, 0, &[]),
             Some(&code) => run(code, &sheet),
         },
     }

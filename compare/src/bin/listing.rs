@@ -1,4 +1,4 @@
-//! The parameters of the seven codes and every edge of `iter_paritychecks`, as the program `edges` writes them.
+//! The parameters of the codes and every edge of `iter_paritychecks`, as the program `edges` writes them.
 use compare::CODES;
 use std::io::{BufWriter, Write};
 

@@ -93,10 +93,9 @@ fn sheets() -> Vec<String> {
             all.extend([0, 1, right - 1, right + 1].map(|len| text(i, op, "1", &"5a".repeat(len))));
         }
     }
-    for code in 7..10 {
-        all.extend(["encode", "bf", "ms"].map(|op| text(code, op, "1", "")));
-        all.push(text(code, "bf", "1", &"00".repeat(16)));
-    }
+    let unknown = CODES.len();
+    all.extend(["encode", "bf", "ms"].map(|op| text(unknown, op, "1", "")));
+    all.push(text(unknown, "bf", "1", &"00".repeat(16)));
     // 8,192 bytes that are well formed
     all.push(text(0, "bf", "10", &"0".repeat(8160)));
     all

@@ -14,7 +14,7 @@ use Rattle.tables.specs.Words.{generators}
 
 -- how many codes there are, and which numbers are theirs
 abbrev pub codes : ℕ
-codes = 7
+codes = 9
 
 abbrev pub Known : ℕ → Type 0
 Known code = code < codes
@@ -58,6 +58,8 @@ rows =
     row 1536 1024 256 256 64 5888 ∷
     row 2048 1024 512 512 128 7680 ∷
     row 5120 4096 512 512 128 19968 ∷
+    row 6144 4096 1024 1024 256 23552 ∷
+    row 8192 4096 2048 2048 512 30720 ∷
     []
 
 -- the row of a code; zeros where the code is not known
@@ -70,28 +72,28 @@ paramsOf code = record { answer = firstOf (test (not (known code)) 1 ∷ []); ro
 
 -- no code has larger blocks, more bits sent, more bits in all or more checks, or asks for longer buffers
 abbrev pub maxBlock : ℕ
-maxBlock = 512
+maxBlock = 2048
 
 abbrev pub maxSent : ℕ
-maxSent = 5120
+maxSent = 8192
 
 abbrev pub maxSentBytes : ℕ
-maxSentBytes = 640
+maxSentBytes = 1024
 
 abbrev pub maxBits : ℕ
-maxBits = 5632
+maxBits = 10240
 
 abbrev pub maxBytes : ℕ
-maxBytes = 704
+maxBytes = 1280
 
 abbrev pub maxChecks : ℕ
-maxChecks = 1536
+maxChecks = 6144
 
 abbrev pub maxSoftWorking : ℕ
-maxSoftWorking = 48640
+maxSoftWorking = 83968
 
 abbrev pub maxSigns : ℕ
-maxSigns = 192
+maxSigns = 768
 
 -- the bits of a word with those not sent, and the parity equations
 abbrev pub bitsIn : ℕ → ℕ
@@ -114,6 +116,8 @@ tables =
     record { prototype = 4; phi = 1 } ∷
     record { prototype = 3; phi = 2 } ∷
     record { prototype = 5; phi = 2 } ∷
+    record { prototype = 4; phi = 3 } ∷
+    record { prototype = 3; phi = 4 } ∷
     []
 
 abbrev pub tablesOf : ℕ → MatrixTables

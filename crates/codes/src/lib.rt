@@ -41,23 +41,23 @@ pub fn or_length(answer: u8, have: usize, want: usize, number: u8) -> u8
     or_test(answer, have != want, number)
 }
 
-// How many codes there are: TC128, TC256, TC512, TM1280, TM1536, TM2048, TM5120, numbered from 0.
-pub const CODES: usize = 7;
+// How many codes there are: TC128, TC256, TC512, TM1280, TM1536, TM2048, TM5120, TM6144, TM8192, numbered from 0.
+pub const CODES: usize = 9;
 
 // No code has more bits sent, more bits, those not sent included, or more checks, or asks for longer buffers.
-pub const MAX_SENT: usize = 5120;
+pub const MAX_SENT: usize = 8192;
 
-pub const MAX_SENT_BYTES: usize = 640;
+pub const MAX_SENT_BYTES: usize = 1024;
 
-pub const MAX_BITS: usize = 5632;
+pub const MAX_BITS: usize = 10240;
 
-pub const MAX_BYTES: usize = 704;
+pub const MAX_BYTES: usize = 1280;
 
-pub const MAX_CHECKS: usize = 1536;
+pub const MAX_CHECKS: usize = 6144;
 
-pub const MAX_SOFT_WORKING: usize = 48640;
+pub const MAX_SOFT_WORKING: usize = 83968;
 
-pub const MAX_SIGNS: usize = 192;
+pub const MAX_SIGNS: usize = 768;
 
 pub struct CodeParams {
     // Bits sent.
@@ -164,6 +164,30 @@ const PARAMS: [CodeParams; CODES] = [
         decode_ms_working_u8_len: 192,
         output_len: 704,
     },
+    CodeParams {
+        n: 6144,
+        k: 4096,
+        punctured_bits: 1024,
+        submatrix_size: 1024,
+        circulant_size: 256,
+        paritycheck_sum: 23552,
+        decode_bf_working_len: 7168,
+        decode_ms_working_len: 60416,
+        decode_ms_working_u8_len: 384,
+        output_len: 896,
+    },
+    CodeParams {
+        n: 8192,
+        k: 4096,
+        punctured_bits: 2048,
+        submatrix_size: 2048,
+        circulant_size: 512,
+        paritycheck_sum: 30720,
+        decode_bf_working_len: 10240,
+        decode_ms_working_len: 83968,
+        decode_ms_working_u8_len: 768,
+        output_len: 1280,
+    },
 ];
 
 const NO_CODE: CodeParams = CodeParams {
@@ -213,6 +237,14 @@ const TABLES: [MatrixTables; CODES] = [
     MatrixTables {
         prototype: 5,
         phi: 2,
+    },
+    MatrixTables {
+        prototype: 4,
+        phi: 3,
+    },
+    MatrixTables {
+        prototype: 3,
+        phi: 4,
     },
 ];
 

@@ -25,6 +25,8 @@ use tables::compact_generators::TM1280_G;
 use tables::compact_generators::TM1536_G;
 use tables::compact_generators::TM2048_G;
 use tables::compact_generators::TM5120_G;
+use tables::compact_generators::TM6144_G;
+use tables::compact_generators::TM8192_G;
 
 // A constant has no memory of its own: the generator is a local, made once for a call and lent. A temporary in its place costs TC128 40 %.
 fn encode_tm(code: usize, row: CodeParams, codeword: &mut [u8])
@@ -49,6 +51,14 @@ fn encode_tm(code: usize, row: CodeParams, codeword: &mut [u8])
         }
         6 => {
             let g = TM5120_G;
+            encode_parity(codeword, &g, k, r, b)
+        }
+        7 => {
+            let g = TM6144_G;
+            encode_parity(codeword, &g, k, r, b)
+        }
+        8 => {
+            let g = TM8192_G;
             encode_parity(codeword, &g, k, r, b)
         }
         _ => {}

@@ -37,13 +37,13 @@ fn encodes() {
     let mut codeword = [0xffu8; 16];
     copied(0, &data, &mut codeword);
     in_place(0, &mut codeword);
-    copied(7, &data, &mut [0xffu8; 16]);
+    copied(9, &data, &mut [0xffu8; 16]);
     copied(0, &data[..0], &mut [0xffu8; 16]);
     copied(0, &data[..7], &mut [0xffu8; 15]);
     copied(0, &[0u8; 9], &mut [0xffu8; 16]);
     copied(0, &data, &mut [0xffu8; 15]);
     copied(0, &data, &mut [0xffu8; 17]);
-    in_place(7, &mut [0xffu8; 15]);
+    in_place(9, &mut [0xffu8; 15]);
     in_place(0, &mut [0xffu8; 16][..0]);
     in_place(0, &mut [0xffu8; 15]);
     in_place(0, &mut [0xffu8; 17]);
@@ -67,7 +67,7 @@ fn flips(frame: &[u8]) {
     flip(0, frame, &mut [0xffu8; 16], &mut [0u8; 129]);
     flip(0, frame, &mut [0xffu8; 15], &mut [0u8; 127]);
     flip(0, &[0u8; 15], &mut [0xffu8; 16], &mut [0u8; 127]);
-    flip(7, &[0u8; 15], &mut [0xffu8; 15], &mut [0u8; 127]);
+    flip(9, &[0u8; 15], &mut [0xffu8; 15], &mut [0u8; 127]);
 }
 
 fn softs(frame: &[u8]) {
@@ -75,7 +75,7 @@ fn softs(frame: &[u8]) {
     soft(0, frame, &mut [0xffu8; 16], &mut [0i8; 1280], &mut [0u8; 9]);
     soft(0, frame, &mut [0xffu8; 16], &mut [0i8; 1279], &mut [0u8; 9]);
     soft(0, frame, &mut [0xffu8; 17], &mut [0i8; 1279], &mut [0u8; 9]);
-    soft(7, frame, &mut [0xffu8; 17], &mut [0i8; 1279], &mut [0u8; 9]);
+    soft(9, frame, &mut [0xffu8; 17], &mut [0i8; 1279], &mut [0u8; 9]);
 }
 
 // What was sent, then the bits that were not.

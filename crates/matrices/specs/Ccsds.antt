@@ -100,7 +100,7 @@ pub record Standard : Type 0 where
 abbrev pub standard : ℕ → List (List Cell) → Standard
 standard m h = record { size = m; rows = h }
 
--- the matrices by code: TC128, TC256, TC512, TM1280, TM1536, TM2048, TM5120
+-- the matrices by code: TC128, TC256, TC512, TM1280, TM1536, TM2048, TM5120, TM6144, TM8192
 unfoldable pub standards : List Standard
 standards =
     standard 16 tc128 ∷
@@ -110,6 +110,8 @@ standards =
     standard 256 twoThirds ∷
     standard 512 half ∷
     standard 512 fourFifths ∷
+    standard 1024 twoThirds ∷
+    standard 2048 half ∷
     []
 
 -- the matrix of a code; no rows where it is not known

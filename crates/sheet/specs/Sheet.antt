@@ -1,5 +1,5 @@
 -- The answer to a sheet, over what the library's own calls leave. Assumes nothing.
-use mathlib.Core.Bool.{true}
+use mathlib.Core.Bool.{Bool, true}
 use mathlib.Core.List.{List, []}
 use Prim.Native.Nat.{ℕ, _/_}
 use lib.Dec.{eqb}
@@ -56,12 +56,29 @@ msSheet code limit frame =
     softFrom code limit (soft.toLlrsOutcome (negsuc 0) (pos 1) code frame (replicate (row .n) (pos 0))) (replicate (row .«output_len») 0)
     (replicate (row .«decode_ms_working_len») (pos 0)) (replicate (row .«decode_ms_working_u8_len») 0)
 
--- "Anything else .. is 9"; `encode` "reads `maxiters` and doesn't use it"
+-- the code whose min-sum "is too much for the bench sheet, which answers well-formed `ms` for code 8 with a number of its own, 14", and what
+-- the others ask for at most: confidences, working numbers and sign bytes
+abbrev pub tooLarge : ℕ → Bool
+tooLarge code = eqb code 8
+
+abbrev pub noRoom : ℕ
+noRoom = 14
+
+abbrev pub softSent : ℕ
+softSent = 6144
+
+abbrev pub softWorking : ℕ
+softWorking = 60416
+
+abbrev pub softSigns : ℕ
+softSigns = 384
+
+-- "Anything else .. is 9"; `encode` "reads `maxiters` and doesn't use it"; 14 is tested before all that the library tests
 abbrev pub answerTo : Sheet → List ℕ
 answerTo malformed = reported (refusal (textNumber Malformed)) []
 answerTo (sheet code Encode limit frame) = encodeSheet code frame
 answerTo (sheet code Bf limit frame) = bfSheet code limit frame
-answerTo (sheet code Ms limit frame) = msSheet code limit frame
+answerTo (sheet code Ms limit frame) = pick (tooLarge code) (reported (refusal noRoom) []) (msSheet code limit frame)
 
 abbrev pub sheetOf : List ℕ → List ℕ
 sheetOf text = answerTo (parse text)

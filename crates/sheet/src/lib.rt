@@ -20,6 +20,9 @@ use sheet_values::hex_bytes;
 // The text is no sheet.
 pub const MALFORMED: u8 = 9;
 
+// It asks for min-sum of a code for which a sheet has no room.
+pub const NO_ROOM: u8 = 14;
+
 fn answer_to(code: usize, op: Op, limit: usize, frame: &[u8]) -> Answer
     ensures { λ r. ⌜ r ≡ answerOf (answerTo (sheet code op limit (now (frame .entry)))) ⌝ }
 {

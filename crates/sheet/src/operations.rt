@@ -1,4 +1,5 @@
 // The three operations of a sheet, each with the buffers that its code asks for.
+ghost use mathlib.Core.Bool.{false};
 ghost use mathlib.Core.Path.{_≡_};
 ghost use Prim.Native.Nat.{_≤_};
 ghost use lib.ListN.{length};
@@ -9,21 +10,31 @@ ghost use Rattle.encoder.specs.Outcomes.{copyEncodeOutcome};
 ghost use Rattle.bit_flip.specs.Outcome.{outcome};
 ghost use Rattle.min_sum.specs.Outcomes.{toLlrsOutcome};
 ghost use Rattle.sheet_text.specs.Printing.{maxOutput, answerOf};
-ghost use Rattle.sheet.specs.Sheet.{reported, encodedText, flippedText, softFrom, encodeSheet, bfSheet, msSheet};
+ghost use Rattle.sheet_text.specs.Reading.{sheet};
+ghost use Rattle.sheet_values.specs.declared.Op.the-variants.{Ms};
+ghost use Rattle.sheet.specs.Sheet.{reported, encodedText, flippedText, softFrom, encodeSheet, bfSheet, msSheet, tooLarge, answerTo};
+use crate::NO_ROOM;
 use codes::ACCEPTED;
 use codes::CodeParams;
 use codes::MAX_BITS;
 use codes::MAX_BYTES;
-use codes::MAX_SENT;
 use codes::MAX_SENT_BYTES;
-use codes::MAX_SIGNS;
-use codes::MAX_SOFT_WORKING;
 use codes::params;
 use report::Report;
 use report::finished;
 use report::refused;
 use sheet_text::print::Answer;
 use sheet_text::print::print;
+
+// The code whose min-sum needs more room than a sheet has: TM8192.
+const TOO_LARGE: usize = 8;
+
+// What the others ask for at most: confidences, working numbers and sign bytes.
+const SOFT_SENT: usize = 6144;
+
+const SOFT_WORKING: usize = 60416;
+
+const SOFT_SIGNS: usize = 384;
 
 // A refusal prints no output byte.
 pub(crate) fn print_report(r: Report, output: &[u8]) -> Answer
@@ -106,13 +117,14 @@ fn soft_into(
     print_report(r, output)
 }
 
-pub(crate) fn soft_frame(code: usize, frame: &[u8], limit: usize) -> Answer
+fn soft_served(code: usize, frame: &[u8], limit: usize) -> Answer
+    requires { ⌜ tooLarge code ≡ false ⌝ }
     ensures { λ a. ⌜ a ≡ answerOf (msSheet code limit (now (frame .entry))) ⌝ }
 {
-    let mut llrs = [0i8; MAX_SENT];
+    let mut llrs = [0i8; SOFT_SENT];
     let mut output = [0u8; MAX_BYTES];
-    let mut working = [0i8; MAX_SOFT_WORKING];
-    let mut signs = [0u8; MAX_SIGNS];
+    let mut working = [0i8; SOFT_WORKING];
+    let mut signs = [0u8; SOFT_SIGNS];
     let row = row_of(code);
     let n = row.n;
     let o = row.output_len;
@@ -127,4 +139,13 @@ pub(crate) fn soft_frame(code: usize, frame: &[u8], limit: usize) -> Answer
         &mut signs[..s],
         limit,
     )
+}
+
+pub(crate) fn soft_frame(code: usize, frame: &[u8], limit: usize) -> Answer
+    ensures { λ a. ⌜ a ≡ answerOf (answerTo (sheet code Ms limit (now (frame .entry)))) ⌝ }
+{
+    if code == TOO_LARGE {
+        return print_report(refused(NO_ROOM), &frame[..0]);
+    }
+    soft_served(code, frame, limit)
 }
