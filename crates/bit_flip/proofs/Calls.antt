@@ -24,7 +24,7 @@ use Rattle.bits.proofs.Packed.{packed-whole}
 use Rattle.codes.specs.declared.CodeParams.{CodeParams}
 use Rattle.codes.specs.declared.ParamsAnswer.{ParamsAnswer}
 use Rattle.codes.specs.Answers.{test, firstOf, orTest, unlike}
-use Rattle.codes.specs.Codes.{rowOf, paramsOf, bitsIn, checksIn, maxChecks}
+use Rattle.codes.specs.Codes.{rowOf, paramsOf, bitsIn, checksIn}
 use Rattle.codes.specs.Edges.{Edge, edges}
 use Rattle.codes.specs.Equations.{wordOf}
 use Rattle.codes.proofs.Answers.{Passed, answered, all-passed, passed-known, passed-length}
@@ -33,7 +33,7 @@ use Rattle.codes.proofs.Bounds.{bounds}
 use Rattle.runs.specs.declared.Runs.{Runs}
 use Rattle.runs.specs.Runs.{runsOf, laid}
 use Rattle.runs.proofs.Lent.{runs-fit, runs-room, runs-taken}
-use Rattle.runs.proofs.Parity.{laid-runs, zeros, checks-lent}
+use Rattle.runs.proofs.Parity.{laid-runs}
 use Rattle.runs.proofs.Degrees.{few-edges}
 use Rattle.report.specs.declared.Report.{Report}
 use Rattle.report.specs.Report.{refusal, ending}
@@ -106,23 +106,25 @@ module _ (code : ℕ) (row : CodeParams) (input working : ℕ) (a : Accepted cod
   pub sent-low : row .n ≤ working
   sent-low = rw (bits-are, a .is-row) (omega arith)
 
-  checks-are : length (zeros maxChecks (row .n + row .«punctured_bits» - row .k)) ≡ checksIn code
-  checks-are = checks-lent code row (a .is-row)
-
-  module _ (q : Runs) (e : q ≡ runsOf code) where
-    edges-are : laid (length (zeros maxChecks (row .n + row .«punctured_bits» - row .k))) working (take (3 * q .count) (q .triples)) ≡ edges code
+  module _ (q : Runs) (e : q ≡ runsOf code) (checks : ℕ) (checks-are : checks ≡ checksIn code) where
+    edges-are : laid checks working (take (3 * q .count) (q .triples)) ≡ edges code
     edges-are = rw (runs-taken code q e, checks-are, bits-are) (laid-runs code (a .known))
 
-    pub few-lent : FewEdges (laid (length (zeros maxChecks (row .n + row .«punctured_bits» - row .k))) working (take (3 * q .count) (q .triples)))
+    pub few-lent : FewEdges (laid checks working (take (3 * q .count) (q .triples)))
     few-lent = rw edges-are (record { at = λ v. omega (arith, few-edges code v) })
 
     pub word-decoded : (s w : List ℕ) (limit : ℕ) (r : Report)
-        → (let k = length (zeros maxChecks (row .n + row .«punctured_bits» - row .k)) in
-        decodedTo r w ≡ decodeWord (laid k working (take (3 * q .count) (q .triples))) k (fromOn (row .n) working) (working - row .n) limit (span (bitAt s) 0 working))
+        → decodedTo r w
+        ≡ decodeWord (laid checks working (take (3 * q .count) (q .triples))) checks (fromOn (row .n) working) (working - row .n) limit (span (bitAt s) 0 working)
         → decodedTo r w ≡ decodedWord code s limit
     word-decoded s w limit r d =
         let p : bitsIn code - rowOf code .n ≡ rowOf code .«punctured_bits» = omega arith in
         rw p at (rw (edges-are, checks-are, bits-are, a .is-row) at d)
+
+  -- a byte for each check, of so many zeros
+  pub checks-lent : (room : ℕ) → row .n + row .«punctured_bits» - row .k ≤ room
+      → length (take (row .n + row .«punctured_bits» - row .k) (replicate {A = ℕ} room 0)) ≡ checksIn code
+  checks-lent room h = sym (lent-full {A = ℕ} room 0 _ h) ∙ rw (a .is-row)
 
 pub decoded-by : (code limit t : ℕ) (row : CodeParams) (s o w o′ w′ : List ℕ) (r : Report) → Accepted code row (length s) t → decodedTo r w ≡ decodedWord code s limit
     → o′ ≡ packed w o → w′ ≡ replicate (length w) 0 → length w ≡ t → length o ≡ rowOf code .«output_len» → left r o′ w′ ≡ decoded code s limit
@@ -132,7 +134,7 @@ decoded-by code limit t row s o w o′ w′ r a d eo ew l lo =
     let p = packed-whole w o (omega (arith, lo, b, roomy code (a .known) .whole)) in
     rw (ew, eo, p, b, lo, ← d)
 
-pub ruleset decoding = (runs-fit, runs-room, lent-long, lent-full, bounds, whole-input, sent-low, few-lent, word-decoded, decoded-by, needs)
+pub ruleset decoding = (runs-fit, runs-room, lent-long, lent-full, bounds, whole-input, sent-low, few-lent, word-decoded, checks-lent, decoded-by, needs)
 
 -- ---- the answer
 pub answer-is : (code i o w : ℕ) (p : ParamsAnswer) (a b c : ℕ) → c ≡ orTest b (test (unlike w (p .row .«decode_bf_working_len»)) 4) → b ≡ orTest a (test (unlike o (p .row .«output_len»)) 3)

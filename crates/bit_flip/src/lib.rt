@@ -4,14 +4,14 @@ ghost use Prim.Native.Nat.{_-_, _*_, _≤_};
 ghost use lib.ListN.{length, take};
 ghost use Rattle.maths.specs.Lists.{span};
 ghost use Rattle.maths.specs.Bits.{bitAt};
-ghost use Rattle.codes.specs.Answers.{firstOf};
-ghost use Rattle.codes.specs.Codes.{rowOf};
+ghost use Rattle.codes.specs.Codes.{rowOf, checksIn};
 ghost use Rattle.runs.specs.Runs.{laid};
 ghost use Rattle.bit_flip.specs.Erasures.{filled, erasurePasses, fromOn};
-ghost use Rattle.bit_flip.specs.Outcome.{left, decodedTo, decodeWord, decodedWord, decoded, tests, outcome};
+ghost use Rattle.bit_flip.specs.Outcome.{left, decodedTo, decodeWord, decodedWord, decoded, outcome};
 ghost use Rattle.bit_flip.specs.Steps.{FewEdges, Accepted};
 use codes::ACCEPTED;
 use codes::CodeParams;
+use codes::FEW_CHECKS;
 use codes::MAX_CHECKS;
 use codes::WRONG_READ;
 use codes::WRONG_WORKING;
@@ -72,17 +72,34 @@ fn decode_bits(
     finished(e.success, e.iters + count)
 }
 
-// The word of a known code, from what was received, one byte a bit.
+// The word of a known code, from what was received, one byte a bit, with a byte for each check.
+fn decode_code(
+    code: usize,
+    row: CodeParams,
+    input: &[u8],
+    bits: &mut [u8],
+    checks: &mut [u8],
+    limit: usize,
+) -> Report
+    requires { ⌜ Accepted code row (length (now input)) (length (now bits)) × (length (now checks) ≡ checksIn code) ⌝ }
+    ensures { λ r. ⌜ decodedTo r (now (bits .exit)) ≡ decodedWord code (now (input .entry)) limit ⌝ }
+{
+    let n = row.n;
+    let runs = runs_of(code);
+    let used = 3 * runs.count;
+    decode_bits(input, n, &runs.triples, used, bits, checks, limit)
+}
+
+// The same, with the checks on the stack.
 fn decode_word(code: usize, row: CodeParams, input: &[u8], bits: &mut [u8], limit: usize) -> Report
     requires { ⌜ Accepted code row (length (now input)) (length (now bits)) ⌝ }
     ensures { λ r. ⌜ decodedTo r (now (bits .exit)) ≡ decodedWord code (now (input .entry)) limit ⌝ }
 {
-    let n = row.n;
-    let m = n + row.punctured_bits - row.k;
-    let mut checks = [0u8; MAX_CHECKS];
-    let runs = runs_of(code);
-    let used = 3 * runs.count;
-    decode_bits(input, n, &runs.triples, used, bits, &mut checks[..m], limit)
+    let m = row.n + row.punctured_bits - row.k;
+    if m <= FEW_CHECKS {
+        return decode_code(code, row, input, bits, &mut [0u8; FEW_CHECKS][..m], limit);
+    }
+    decode_code(code, row, input, bits, &mut [0u8; MAX_CHECKS][..m], limit)
 }
 
 // The bits stand in the lent working buffer, which is cleared at the end.
@@ -103,17 +120,6 @@ fn decode(
     report
 }
 
-// The answer to a call with buffers of these lengths.
-fn answer_of(code: usize, input: usize, output: usize, working: usize) -> u8
-    ensures { λ r. ⌜ r ≡ firstOf (tests code input output working) ⌝ }
-{
-    let asked = params(code);
-    let row = asked.row;
-    let read = or_length(asked.answer, input, row.n / 8, WRONG_READ);
-    let written = or_length(read, output, row.output_len, WRONG_WRITTEN);
-    or_length(written, working, row.decode_bf_working_len, WRONG_WORKING)
-}
-
 // Bit flipping on hard bits, at most limit main passes.
 pub fn decode_bf(
     code: usize,
@@ -124,10 +130,18 @@ pub fn decode_bf(
 ) -> Report
     ensures { λ r. ⌜ left r (now (output .exit)) (now (working .exit)) ≡ outcome code (now (input .entry)) (now (output .entry)) (now (working .entry)) limit ⌝ }
 {
-    let answer = answer_of(code, input.len(), output.len(), working.len());
+    let asked = params(code);
+    let row = asked.row;
+    let read = or_length(asked.answer, input.len(), row.n / 8, WRONG_READ);
+    let written = or_length(read, output.len(), row.output_len, WRONG_WRITTEN);
+    let answer = or_length(
+        written,
+        working.len(),
+        row.decode_bf_working_len,
+        WRONG_WORKING,
+    );
     if answer != ACCEPTED {
         return refused(answer);
     }
-    let row = params(code).row;
     decode(code, row, input, output, working, limit)
 }

@@ -59,6 +59,9 @@ pub const MAX_SOFT_WORKING: usize = 83968;
 
 pub const MAX_SIGNS: usize = 768;
 
+// No TC code has more checks. Room for all takes such a frame longer to clear, so the decoders make it of one of two sizes.
+pub const FEW_CHECKS: usize = 256;
+
 pub struct CodeParams {
     // Bits sent.
     pub n: usize,

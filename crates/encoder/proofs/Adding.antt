@@ -1,8 +1,8 @@
--- Words and rows that are added to the bits of a byte string. Assumes nothing.
+-- Rows that are added to the bits of a byte string. Assumes nothing.
 use mathlib.Core.List.{List}
 use mathlib.Core.Path.{_≡_, refl, sym, ap, _∙_}
 use Prim.Native.Nat.{ℕ, _+_, _-_, _*_, _/_, _%_, _^_, _≤_, _<_}
-use native.Mathlib.Nat.{add-zero, zero-mul, one-mul, mod-lt}
+use native.Mathlib.Nat.{add-zero, zero-mul, one-mul}
 use native.Mathlib.Numerals.{add-one}
 use native.Mathlib.Omega.{arith}
 use lib.Bits.{bitXor, xor-lt}
@@ -10,53 +10,30 @@ use lib.ListN.{length, getD, set}
 use Rattle.maths.specs.Bits.{bitAt}
 use Rattle.maths.specs.Bytes.{byte}
 use Rattle.maths.proofs.Bytes.{bitAt-low, bit-of, byte-is}
-use Rattle.codes.specs.Frames.{generatorBit}
 use Rattle.encoder.specs.Rotation.{placed, bitsFrom}
-use Rattle.encoder.specs.Rows.{added, wordBit, rowsAt}
-use Rattle.encoder.proofs.Packed.{xor-bit, word-bit}
-use Rattle.encoder.proofs.Placed.{length-placed, bit-before, bit-within, placed-again, placed-ext, placed-same, Grown, grown-byte, grown-more, grown-bit, grown-next}
+use Rattle.encoder.specs.Rows.{added, rowsAt}
+use Rattle.encoder.proofs.Packed.{xor-bit}
+use Rattle.encoder.proofs.Placed.{length-placed, bit-before, bit-within, placed-again, placed-ext, placed-same, Grown, grown-byte, grown-next}
 
 -- the bits of s from byte at on, with f added
 abbrev pub sums : List ℕ → ℕ → (ℕ → ℕ) → ℕ → ℕ
 sums s at f j = bitsFrom s at j + f j
 
--- ---- a word, byte by byte
-module _ (s : List ℕ) (at word : ℕ) where
-  word-byte : (i x : ℕ) → i < 8 → x ≡ getD s (at + i) 0 → x < 256
-      → byte (sums s at (wordBit word)) i ≡ bitXor x (word / 2 ^ (56 - 8 * i) % 256)
-  word-byte i x h e low =
-      let y = word / 2 ^ (56 - 8 * i) % 256 in
-      byte-is (sums s at (wordBit word)) i (bitXor x y) (xor-lt 8 x y low (mod-lt (word / 2 ^ (56 - 8 * i)) (omega arith))) (λ t l.
+-- ---- a row, byte by byte
+module _ (s : List ℕ) (at : ℕ) (g : List ℕ) (from len : ℕ) where
+  row-byte : (i x y : ℕ) → x ≡ getD s (at + i) 0 → x < 256 → y ≡ getD g (from + i) 0 → y < 256
+      → byte (sums s at (bitsFrom g from)) i ≡ bitXor x y
+  row-byte i x y e low f few =
+      byte-is (sums s at (bitsFrom g from)) i (bitXor x y) (xor-lt 8 x y low few) (λ t l.
       let p : at * 8 + (i * 8 + t) ≡ (at + i) * 8 + t = omega arith in
-      rw (xor-bit x y (7 - t), word-bit word i t h l, p, bit-of s (at + i) t l, e))
+      let q : from * 8 + (i * 8 + t) ≡ (from + i) * 8 + t = omega arith in
+      rw (xor-bit x y (7 - t), p, q, bit-of s (at + i) t l, bit-of g (from + i) t l, e, f))
 
-  pub word-more : {t : List ℕ} {i : ℕ} → Grown s at 8 (sums s at (wordBit word)) i t → i < 8
-      → getD t (at + i) 0 < 256 → (y : ℕ) → y ≡ word / 2 ^ (56 - 8 * i) % 256
-      → Grown s at 8 (sums s at (wordBit word)) (i + 1) (set t (at + i) (bitXor (getD t (at + i) 0) y))
-  word-more {t} {i} g h low y e =
-      grown-byte s at 8 (sums s at (wordBit word)) g h
-      (word-byte i (getD t (at + i) 0) h (grown-next s at 8 (sums s at (wordBit word)) g (at + i) (omega arith)) low
-      ∙ ap (bitXor (getD t (at + i) 0)) (sym e))
-
--- ---- a row, word by word
-module _ (s : List ℕ) (at : ℕ) (g : List ℕ) (c words : ℕ) where
-  -- bit j of word i
-  row-bit : {t : List ℕ} (i : ℕ) → Grown s at (words * 8) (sums s at (generatorBit words g c)) (i * 8) t → (j : ℕ) → j < 64
-      → bitsFrom t (at + i * 8) j + wordBit (getD g (c * words + i) 0) j ≡ sums s at (generatorBit words g c) (i * 8 * 8 + j)
-  row-bit {t} i r j h =
-      let p : (at + i * 8) * 8 + j ≡ at * 8 + (i * 8 * 8 + j) = omega arith in
-      let q : (i * 8 * 8 + j) / 64 ≡ i = omega arith in
-      let m : (i * 8 * 8 + j) % 64 ≡ j = omega arith in
-      rw (grown-bit s at (words * 8) (sums s at (generatorBit words g c)) r ((at + i * 8) * 8 + j) (omega arith), p, q, m)
-
-  pub row-more : {t u : List ℕ} (i : ℕ) → Grown s at (words * 8) (sums s at (generatorBit words g c)) (i * 8) t → i < words
-      → u ≡ added t (at + i * 8) 8 (wordBit (getD g (c * words + i) 0)) → Grown s at (words * 8) (sums s at (generatorBit words g c)) ((i + 1) * 8) u
-  unfolding added
-  row-more {t} {u} i r h e =
-      let n : (i + 1) * 8 ≡ i * 8 + 8 = omega arith in
-      rw n
-      (grown-more s at (words * 8) (sums s at (generatorBit words g c)) 8 r (omega arith)
-      (e ∙ placed-ext t (at + i * 8) 8 (omega (arith, r .long, r .fit)) _ _ (λ j l. ap (λ (x : ℕ). x % 2) (row-bit i r j l))))
+  pub row-more : {t : List ℕ} {i : ℕ} → Grown s at len (sums s at (bitsFrom g from)) i t → i < len → getD t (at + i) 0 < 256 → getD g (from + i) 0 < 256
+      → Grown s at len (sums s at (bitsFrom g from)) (i + 1) (set t (at + i) (bitXor (getD t (at + i) 0) (getD g (from + i) 0)))
+  row-more {t} {i} r h low few =
+      grown-byte s at len (sums s at (bitsFrom g from)) r h
+      (row-byte i (getD t (at + i) 0) (getD g (from + i) 0) (grown-next s at len (sums s at (bitsFrom g from)) r (at + i) (omega arith)) low refl few)
 
 -- ---- rows, one after the other
 module _ (s : List ℕ) (at len : ℕ) (fit : at + len ≤ length s) where

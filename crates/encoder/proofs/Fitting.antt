@@ -13,7 +13,7 @@ pub block-low : (i n len : ℕ) → i < n → i * len + len ≤ n * len
 block-low i n len h = omega (arith, suc-mul i len, mul-le-mul-right {m = suc i} {n = n} len h)
 
 -- the data bit of row i stands before the parity part
-pub bit-low : {s g : List ℕ} {at b rows words : ℕ} → Laid s g at b rows words → (i o : ℕ) → i < rows → o < b → i * b + o < at * 8
+pub bit-low : {s g : List ℕ} {at b rows len : ℕ} → Laid s g at b rows len → (i o : ℕ) → i < rows → o < b → i * b + o < at * 8
 bit-low {b} {rows} l i o h ho = omega (arith, block-low i rows b h, l .data-low)
 
 module _ {s g : List ℕ} {k r b : ℕ} (z : Parts s g k r b) where
@@ -52,11 +52,12 @@ module _ {s g : List ℕ} {k r b : ℕ} (z : Parts s g k r b) where
   pub part-low : k / 8 + r / 8 ≤ length s
   part-low = omega (arith, z .whole)
 
-  pub laid : {t : List ℕ} → length t ≡ length s → k < 2 ^ 64 → Laid t g (k / 8) b (k / b) (r / 64)
-  laid e h =
+  pub laid : {t rows : List ℕ} → length t ≡ length s → length rows ≡ length g * 8 → k < 2 ^ 64 → Laid t rows (k / 8) b (k / b) (r / 8)
+  laid e f h =
+      let bytes : k / b * (r / 8) ≡ k / b * (r / 64) * 8 = ap (λ (x : ℕ). k / b * x) (sym row-bytes) ∙ sym (mul-assoc (k / b) (r / 64) 8) in
       record {
         data-low = data-bits;
-        parity-low = omega (arith, part-low, row-bytes);
-        words-low = omega (arith, z .generator);
+        parity-low = omega (arith, part-low);
+        bytes-low = omega (arith, bytes, z .generator);
         fits = omega arith;
       }

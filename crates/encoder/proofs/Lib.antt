@@ -3,6 +3,7 @@ pub mod Placed
 pub mod Fitting
 pub mod Turning
 pub mod Blocks
+pub mod Putting
 pub mod Adding
 pub mod Horner
 pub mod Staged

@@ -12,11 +12,11 @@ pub record Accepted (code : ℕ) (row : CodeParams) (codeword : ℕ) : Type 0 wh
   pub is-row : row ≡ rowOf code
   pub long : codeword ≡ rowOf code .n / 8
 
--- rows of b data bits before byte at, the words of a row after it, and as many words in each row of the generator
-pub record Laid (s g : List ℕ) (at b rows words : ℕ) : Type 0 where
+-- rows of b data bits before byte at, the bytes of a row after it, and as many bytes in each row of the generator
+pub record Laid (s g : List ℕ) (at b rows len : ℕ) : Type 0 where
   pub data-low : rows * b ≤ at * 8
-  pub parity-low : at + words * 8 ≤ length s
-  pub words-low : rows * words ≤ length g
+  pub parity-low : at + len ≤ length s
+  pub bytes-low : rows * len ≤ length g
   pub fits : at * 8 < 2 ^ 64
 
 -- k data bits and r parity bits, not none, in blocks of b bits, whole bytes each, and a row of r / 64 words for each block of data

@@ -10,6 +10,7 @@ ghost use Rattle.encoder.specs.Sizes.{Accepted};
 
 mod parity;
 mod rotation;
+mod words;
 
 use codes::ACCEPTED;
 use codes::CodeParams;
@@ -28,7 +29,7 @@ use tables::compact_generators::TM5120_G;
 use tables::compact_generators::TM6144_G;
 use tables::compact_generators::TM8192_G;
 
-// A constant has no memory of its own: the generator is a local, made once for a call and lent. A temporary in its place costs TC128 40 %.
+// A constant has no memory of its own: the generator is a local, made once for a call and lent. Temporaries in its place would each have room on the stack, for every code.
 fn encode_tm(code: usize, row: CodeParams, codeword: &mut [u8])
     requires { ⌜ Accepted code row (length (now codeword)) × (tcCodes ≤ code) ⌝ }
     ensures { λ _. ⌜ now (codeword .exit) ≡ encodedBytes code (take (rowOf code .k / 8) (now (codeword .entry))) ⌝ }
@@ -39,27 +40,27 @@ fn encode_tm(code: usize, row: CodeParams, codeword: &mut [u8])
     match code {
         3 => {
             let g = TM1280_G;
-            encode_parity(codeword, &g, k, r, b)
+            encode_parity(codeword, &g, &mut [0u8; 1024], k, r, b)
         }
         4 => {
             let g = TM1536_G;
-            encode_parity(codeword, &g, k, r, b)
+            encode_parity(codeword, &g, &mut [0u8; 1024], k, r, b)
         }
         5 => {
             let g = TM2048_G;
-            encode_parity(codeword, &g, k, r, b)
+            encode_parity(codeword, &g, &mut [0u8; 1024], k, r, b)
         }
         6 => {
             let g = TM5120_G;
-            encode_parity(codeword, &g, k, r, b)
+            encode_parity(codeword, &g, &mut [0u8; 4096], k, r, b)
         }
         7 => {
             let g = TM6144_G;
-            encode_parity(codeword, &g, k, r, b)
+            encode_parity(codeword, &g, &mut [0u8; 4096], k, r, b)
         }
         8 => {
             let g = TM8192_G;
-            encode_parity(codeword, &g, k, r, b)
+            encode_parity(codeword, &g, &mut [0u8; 4096], k, r, b)
         }
         _ => {}
     }
@@ -76,15 +77,15 @@ fn encode_known(code: usize, row: CodeParams, codeword: &mut [u8])
     match code {
         0 => {
             let g = TC128_G;
-            encode_parity(codeword, &g, k, r, b)
+            encode_parity(codeword, &g, &mut [0u8; 32], k, r, b)
         }
         1 => {
             let g = TC256_G;
-            encode_parity(codeword, &g, k, r, b)
+            encode_parity(codeword, &g, &mut [0u8; 64], k, r, b)
         }
         2 => {
             let g = TC512_G;
-            encode_parity(codeword, &g, k, r, b)
+            encode_parity(codeword, &g, &mut [0u8; 128], k, r, b)
         }
         _ => encode_tm(code, row, codeword),
     }

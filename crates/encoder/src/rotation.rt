@@ -29,6 +29,7 @@ pub(crate) fn rotate_block(codeword: &mut [u8], at: usize, len: usize)
         4 => rotate_bytes(codeword, at, 4),
         8 => rotate_bytes(codeword, at, 8),
         16 => rotate_bytes(codeword, at, 16),
+        32 => rotate_bytes(codeword, at, 32),
         _ => rotate_bytes(codeword, at, len),
     }
 }

@@ -14,6 +14,7 @@ ghost use Rattle.min_sum.specs.Working.{ranOver};
 mod passes;
 
 use codes::ACCEPTED;
+use codes::FEW_CHECKS;
 use codes::MAX_CHECKS;
 use confidence_i8::llrs::pack;
 use confidence_i8::parts::fill;
@@ -84,8 +85,12 @@ fn decode(
 {
     let at = layout_of(code);
     let checks = at.checks;
-    let mut marks = [0u8; MAX_CHECKS];
     bits::clear(working_u8);
+    if checks <= FEW_CHECKS {
+        let mut few = [0u8; FEW_CHECKS];
+        return decode_code(code, at, &mut few[..checks], llrs, output, working, limit);
+    }
+    let mut marks = [0u8; MAX_CHECKS];
     decode_code(code, at, &mut marks[..checks], llrs, output, working, limit)
 }
 

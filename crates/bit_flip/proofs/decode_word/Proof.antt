@@ -6,5 +6,6 @@ pub decode-word-spec : {M : Type 1} → statement M
 decode-word-spec =
     tie.close
     (tie.spec
-    (λ c. search decoding) (λ c. search decoding) (λ c κs. search decoding) (λ c. search decoding) (λ c. search decoding) (λ c. search decoding)
-    (λ c κs. (search decoding, search decoding, search decoding, search decoding)) (λ c. search decoding) (λ c. search decoding))
+    (λ c. search decoding) (λ c. search decoding)
+    (λ c. search decoding) (λ c. search decoding) (λ c κs. (search decoding, search decoding)) (λ c. search decoding) (λ c. search decoding)
+    (λ c. search decoding) (λ c. search decoding) (λ c κs. (search decoding, search decoding)) (λ c. search decoding) (λ c. search decoding))

@@ -10,9 +10,9 @@ encode-known-spec =
     tie.close
     (tie.spec
     (λ c. search framing)
-    (λ c. search needs) (λ c κs. search framing)
-    (λ c. search needs) (λ c κs. search framing)
-    (λ c. search needs) (λ c κs. search framing)
+    (λ c. search needs) (λ c. search needs) (λ c κs. search framing)
+    (λ c. search needs) (λ c. search needs) (λ c κs. search framing)
+    (λ c. search needs) (λ c. search needs) (λ c κs. search framing)
     (λ c κs. search framing)
     (λ c. search needs) (λ c. search framing)
     (λ c. search needs) (λ c. search framing)

@@ -11,12 +11,12 @@ encode-tm-spec =
     tie.close
     (tie.spec
     (λ c. search framing)
-    (λ c. search needs) (λ c κs. search framing)
-    (λ c. search needs) (λ c κs. search framing)
-    (λ c. search needs) (λ c κs. search framing)
-    (λ c. search needs) (λ c κs. search framing)
-    (λ c. search needs) (λ c κs. search framing)
-    (λ c. search needs) (λ c κs. search framing)
+    (λ c. search needs) (λ c. search needs) (λ c κs. search framing)
+    (λ c. search needs) (λ c. search needs) (λ c κs. search framing)
+    (λ c. search needs) (λ c. search needs) (λ c κs. search framing)
+    (λ c. search needs) (λ c. search needs) (λ c κs. search framing)
+    (λ c. search needs) (λ c. search needs) (λ c κs. search framing)
+    (λ c. search needs) (λ c. search needs) (λ c κs. search framing)
     (λ c. search needs) (λ c. search framing)
     (λ c. search needs) (λ c. search framing)
     (λ c. search needs) (λ c. search framing)

@@ -6,6 +6,8 @@ pub decode-spec : {M : Type 1} → statement M
 decode-spec =
     tie.close
     (tie.spec
-    (λ c κs. search decodes) (λ c κs. search decodes) (λ c. search decodes) (λ c. search decodes)
-    (λ c κs. (search decodes, (search decodes, search decodes))) (λ c. search decodes) (λ c. search decodes) (λ c. search decodes)
-    (λ c. search decodes))
+    (λ c κs. search decodes) (λ c κs. search decodes)
+    (λ c. search decodes) (λ c. search decodes) (λ c κs. (search decodes, (search decodes, search decodes))) (λ c. search decodes) (λ c. search decodes)
+    (λ c. search decodes) (λ c. search decodes)
+    (λ c. search decodes) (λ c. search decodes) (λ c κs. (search decodes, (search decodes, search decodes))) (λ c. search decodes) (λ c. search decodes)
+    (λ c. search decodes) (λ c. search decodes))

@@ -1,7 +1,7 @@
-use Prim.Native.Nat.{_*_, _-_}
+use Prim.Native.Nat.{_+_, _-_}
 use native.Mathlib.Omega.{arith}
 use denote.Ref.{now}
-use Rattle.codes.specs.Frames.{generatorBit}
+use Rattle.encoder.specs.Rotation.{bitsFrom}
 use Rattle.encoder.specs.Rows.{added}
 use Rattle.encoder.proofs.Placed.{Grown, grown-none, grown-all}
 use Rattle.encoder.proofs.Adding.{sums, row-more}
@@ -9,12 +9,12 @@ use borrow.Author.Needs.{needs}
 use Rattle.encoder.proofs.parity.add_row.Statement.{statement}
 use Rattle.encoder.proofs.parity.add_row.Tie as tie
 
--- the first i words are added
+-- the first i bytes are added
 abbrev Inv-loop : tie.InvT-loop
-Inv-loop codeword₀ at g c words from i₀ codeword i = Grown codeword₀ at (words * 8) (sums codeword₀ at (generatorBit words g c)) (i * 8) codeword
+Inv-loop codeword₀ at rows from len i₀ codeword i = Grown codeword₀ at len (sums codeword₀ at (bitsFrom rows from)) i codeword
 
 abbrev μ-loop : tie.MeasureT-loop
-μ-loop codeword₀ at g c words from i₀ codeword i = words - i
+μ-loop codeword₀ at rows from len i₀ codeword i = len - i
 
 pub add-row-spec : {M : Type 1} → statement M
 unfolding added
@@ -23,27 +23,23 @@ add-row-spec =
     (tie.spec
     Inv-loop
     μ-loop
+    (λ c. let a = c .args in grown-none (now (a .codeword)) (a .at) (a .len) (sums (now (a .codeword)) (a .at) (bitsFrom (now (a .rows)) (a .from))) (c .pre .0))
     (λ c. search needs)
-    (λ c.
-    let s = c .before .before in
-    let a = s .args in
-    grown-none (now (a .codeword)) (a .at) (a .words * 8) (sums (now (a .codeword)) (a .at) (generatorBit (a .words) (now (a .g)) (a .c))) (s .pre .0))
+    (λ c. omega (arith, c .before .before .loop .inv .long))
     (λ c. search needs)
     (λ c. search needs)
     (λ c. search needs)
-    (λ c. search needs)
-    (λ c. search needs)
-    (λ c κs. omega (arith, c .before .before .before .loop .inv .long))
+    (λ c. omega (arith, c .before .before .before .loop .inv .long))
     (λ c. search needs)
     (λ c. search needs)
     (λ c.
-    let w = c .before .before in
-    let i = w .before .before .before in
+    let i = c .before .before in
     let t = i .before in
-    let a = t .before .before .before .args in
-    row-more (now (a .codeword)) (a .at) (now (a .g)) (a .c) (a .words) (t .loop .i) (t .loop .inv) (i .loop-test .taken) (w .add-word .ensures))
+    let a = t .before .args in
+    row-more (now (a .codeword)) (a .at) (now (a .rows)) (a .from) (a .len) (t .loop .inv) (i .loop-test .taken) (c .before .slice-known .given (a .at + t .loop .i) .fits)
+    (c .shared-slice-known .given (a .from + t .loop .i) .fits))
     (λ c. c .before .loop .inv .long)
     (λ c.
     let t = c .before in
-    let a = t .before .before .before .args in
-    grown-all (now (a .codeword)) (a .at) (a .words * 8) (sums (now (a .codeword)) (a .at) (generatorBit (a .words) (now (a .g)) (a .c))) (t .loop .inv) (omega arith)))
+    let a = t .before .args in
+    grown-all (now (a .codeword)) (a .at) (a .len) (sums (now (a .codeword)) (a .at) (bitsFrom (now (a .rows)) (a .from))) (t .loop .inv) (c .loop-test .left)))

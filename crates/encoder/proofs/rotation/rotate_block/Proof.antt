@@ -12,6 +12,8 @@ rotate-block-spec =
     (λ c κs. search needs)
     (λ c κs. search needs)
     (λ c κs. search needs)
+    (λ c κs. search needs)
+    (λ c. search needs) (λ c. search (turned-known, needs))
     (λ c. search needs) (λ c. search (turned-known, needs))
     (λ c. search needs) (λ c. search (turned-known, needs))
     (λ c. search needs) (λ c. search (turned-known, needs))

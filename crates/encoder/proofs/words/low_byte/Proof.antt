@@ -1,6 +1,6 @@
 use lib.Bits.{and-mask, mask-lt}
-use Rattle.encoder.proofs.parity.low_byte.Statement.{statement}
-use Rattle.encoder.proofs.parity.low_byte.Tie as tie
+use Rattle.encoder.proofs.words.low_byte.Statement.{statement}
+use Rattle.encoder.proofs.words.low_byte.Tie as tie
 
 pub low-byte-spec : {M : Type 1} → statement M
 low-byte-spec =
