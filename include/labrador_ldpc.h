@@ -1,13 +1,14 @@
 /* LDPC codes of CCSDS: liblabrador_ldpc.a.
  *
- * A code is a number: 0 TC128, 1 TC256, 2 TC512, 3 TM1280, 4 TM1536, 5 TM2048, 6 TM5120.
+ * A code is a number: 0 TC128, 1 TC256, 2 TC512, 3 TM1280, 4 TM1536, 5 TM2048, 6 TM5120, 7 TM6144,
+ * 8 TM8192.
  * With n, k and p the sent, data and punctured bits of a code, ldpc_params gives every length that a call asks for.
  * Bit i of a byte string is bit 7 - i % 8 of byte i / 8.
  *
  * Every function answers a number:
  *
  *   LDPC_ACCEPTED       0   the call was carried out
- *   LDPC_UNKNOWN_CODE   1   the code is not 0 to 6
+ *   LDPC_UNKNOWN_CODE   1   the code is not 0 to 8
  *   LDPC_WRONG_READ     2   the buffer that is read has the wrong length
  *   LDPC_WRONG_WRITTEN  3   the buffer that is written has the wrong length
  *   LDPC_WRONG_WORKING  4   the main working buffer has the wrong length
@@ -39,7 +40,7 @@ extern "C" {
 #define LDPC_WRONG_WORKING 4
 #define LDPC_WRONG_SIGNS 5
 
-#define LDPC_CODES 7
+#define LDPC_CODES 9
 
 /* Ten numbers: n, k, punctured_bits, submatrix_size, circulant_size, paritycheck_sum, decode_bf_working_len,
  * decode_ms_working_len, decode_ms_working_u8_len, output_len. row_len is 10; any other is 3 and writes nothing.

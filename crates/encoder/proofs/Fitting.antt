@@ -37,7 +37,7 @@ module _ {s g : List ℕ} {k r b : ℕ} (z : Parts s g k r b) where
   pub block-bits : b / 8 * 8 ≡ b
   block-bits = sym (z .bytes)
 
-  pub row-bytes : r / 64 * 8 ≡ r / 8
+  row-bytes : r / 64 * 8 ≡ r / 8
   row-bytes = omega (arith, z .words)
 
   pub blocks-bytes : r / b * (b / 8) ≡ r / 8

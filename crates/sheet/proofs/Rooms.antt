@@ -1,4 +1,4 @@
--- The buffers of the operations serve every code, known or not. Assumes nothing.
+-- The buffers of the operations serve every code, known or not, but for the one whose min-sum is too large. Assumes nothing.
 use mathlib.Core.Bool.{false}
 use mathlib.Core.List.{List, []}
 use mathlib.Core.Path.{_≡_, refl, _∙_}

@@ -56,14 +56,14 @@ msSheet code limit frame =
     softFrom code limit (soft.toLlrsOutcome (negsuc 0) (pos 1) code frame (replicate (row .n) (pos 0))) (replicate (row .«output_len») 0)
     (replicate (row .«decode_ms_working_len») (pos 0)) (replicate (row .«decode_ms_working_u8_len») 0)
 
--- the code whose min-sum "is too much for the bench sheet, which answers well-formed `ms` for code 8 with a number of its own, 14", and what
--- the others ask for at most: confidences, working numbers and sign bytes
+-- min-sum's working buffer of a code "is too much for the bench sheet, which answers well-formed `ms` for code 8 with a number of its own, 14"
 abbrev pub tooLarge : ℕ → Bool
 tooLarge code = eqb code 8
 
 abbrev pub noRoom : ℕ
 noRoom = 14
 
+-- what the other codes ask for at most: confidences, working numbers and sign bytes
 abbrev pub softSent : ℕ
 softSent = 6144
 
