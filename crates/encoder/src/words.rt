@@ -23,6 +23,7 @@ fn put_word(rows: &mut [u8], at: usize, word: u64)
     }
 }
 
+// Puts the words, one after the other.
 pub(crate) fn put_words(g: &[u64], rows: &mut [u8])
     requires { ⌜ length (now rows) ≡ length (now g) * 8 ⌝ }
     ensures { λ _. ⌜ now (rows .exit) ≡ placed (now (rows .entry)) 0 (length (now (g .entry)) * 8) (wordsBit (now (g .entry))) ⌝ }
