@@ -33,7 +33,7 @@ use Rattle.codes.proofs.Bounds.{bounds}
 use Rattle.runs.specs.declared.Runs.{Runs}
 use Rattle.runs.specs.Runs.{runsOf, laid}
 use Rattle.runs.proofs.Lent.{runs-fit, runs-room, runs-taken}
-use Rattle.runs.proofs.Parity.{laid-runs}
+use Rattle.runs.proofs.Parity.{laid-runs, checks-lent}
 use Rattle.runs.proofs.Degrees.{few-edges}
 use Rattle.report.specs.declared.Report.{Report}
 use Rattle.report.specs.Report.{refusal, ending}
@@ -120,11 +120,6 @@ module _ (code : ℕ) (row : CodeParams) (input working : ℕ) (a : Accepted cod
     word-decoded s w limit r d =
         let p : bitsIn code - rowOf code .n ≡ rowOf code .«punctured_bits» = omega arith in
         rw p at (rw (edges-are, checks-are, bits-are, a .is-row) at d)
-
-  -- a byte for each check, of so many zeros
-  pub checks-lent : (room : ℕ) → row .n + row .«punctured_bits» - row .k ≤ room
-      → length (take (row .n + row .«punctured_bits» - row .k) (replicate {A = ℕ} room 0)) ≡ checksIn code
-  checks-lent room h = sym (lent-full {A = ℕ} room 0 _ h) ∙ rw (a .is-row)
 
 pub decoded-by : (code limit t : ℕ) (row : CodeParams) (s o w o′ w′ : List ℕ) (r : Report) → Accepted code row (length s) t → decodedTo r w ≡ decodedWord code s limit
     → o′ ≡ packed w o → w′ ≡ replicate (length w) 0 → length w ≡ t → length o ≡ rowOf code .«output_len» → left r o′ w′ ≡ decoded code s limit

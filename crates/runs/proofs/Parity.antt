@@ -2,7 +2,7 @@
 use mathlib.Core.Bool.{Bool, true, false}
 use mathlib.Core.List.{List}
 use mathlib.Core.Path.{_≡_, sym, _∙_}
-use Prim.Native.Nat.{ℕ, _+_, _-_, _*_, _%_}
+use Prim.Native.Nat.{ℕ, _+_, _-_, _*_, _%_, _≤_}
 use native.Mathlib.Omega.{arith}
 use borrow.Author.Needs.{needs}
 use borrow.Author.Tests.{eqb-true, eq-eqb, ne-eqb}
@@ -66,9 +66,9 @@ met-by ns word bits bits′ checks m n n′ r er ec eb en = rw (er, ec, eb, en)
 
 -- ---- the row of a code
 module _ (code : ℕ) (row : CodeParams) (is : row ≡ rowOf code) where
-  -- as many zeros as it has checks, and as it has bits
-  pub checks-lent : length (zeros maxChecks (row .n + row .«punctured_bits» - row .k)) ≡ checksIn code
-  checks-lent = sym (lent-full maxChecks 0 _ (row-bounded code row is .checks)) ∙ rw is
+  -- as many zeros as it has checks, of any array that has room for them, and as it has bits
+  pub checks-lent : (room : ℕ) → row .n + row .«punctured_bits» - row .k ≤ room → length (zeros room (row .n + row .«punctured_bits» - row .k)) ≡ checksIn code
+  checks-lent room h = sym (lent-full room 0 _ h) ∙ rw is
 
   bits-lent : length (zeros maxBits (row .n + row .«punctured_bits»)) ≡ bitsIn code
   bits-lent = sym (lent-full maxBits 0 _ (row-bounded code row is .bits)) ∙ rw is
@@ -82,7 +82,7 @@ code-met code row word q r a eq er =
     let n = row .n + row .«punctured_bits» in
     let l = bits-lent code row (a .is-row) in
     let w : wordOf (unpacked word (zeros maxBits n)) ≡ bitAt word = unpacked-word word (zeros maxBits n) (omega (arith, a .long, l, roomy code (a .known) .whole)) in
-    er ∙ rw (w, l, checks-lent code row (a .is-row), runs-taken code q eq, laid-runs code (a .known)) (none-broken (edges code) (checksIn code) (bitAt word))
+    er ∙ rw (w, l, checks-lent code row (a .is-row) maxChecks (row-bounded code row (a .is-row) .checks), runs-taken code q eq, laid-runs code (a .known)) (none-broken (edges code) (checksIn code) (bitAt word))
 
 pub ruleset meeting = (runs-fit, runs-room, lent-long, lent-full, bounds, met-by, code-met, needs)
 

@@ -1,12 +1,12 @@
 -- The buffers of the operations serve every code, known or not, but for the one whose min-sum is too large. Assumes nothing.
-use mathlib.Core.Bool.{false}
+use mathlib.Core.Bool.{true, false}
 use mathlib.Core.List.{List, []}
 use mathlib.Core.Path.{_≡_, refl, _∙_}
 use Prim.Native.Nat.{ℕ, _/_, _≤_, _<_}
 use native.Mathlib.Decide.{decLt}
 use native.Mathlib.Omega.{arith}
 use borrow.Author.Needs.{needs}
-use borrow.Author.Tests.{ne-eqb}
+use borrow.Author.Tests.{eq-eqb, ne-eqb}
 use lib.Dec.{T, leb, leb→le}
 use lib.IntN.{ℤ, pos, negsuc}
 use lib.ListN.{length, take, replicate, List·getD-eq-default}
@@ -86,7 +86,7 @@ module _ (code : ℕ) (frame : List ℕ) (r : CodeParams) (a : Answer) (is : r �
 
 -- min-sum is served but for one code
 module _ (code limit : ℕ) (frame : List ℕ) (a : Answer) where
-  pub soft-no-room : (r : Report) → code ≡ 8 → r ≡ refusal noRoom → a ≡ answerOf (reported r []) → a ≡ answerOf (answerTo (sheet code Ms limit frame))
+  pub soft-no-room : (r : Report) → tooLarge code ≡ true → r ≡ refusal noRoom → a ≡ answerOf (reported r []) → a ≡ answerOf (answerTo (sheet code Ms limit frame))
   soft-no-room r e f g = g ∙ rw (f, e)
 
   pub soft-room : tooLarge code ≡ false → a ≡ answerOf (msSheet code limit frame) → a ≡ answerOf (answerTo (sheet code Ms limit frame))
@@ -94,4 +94,4 @@ module _ (code limit : ℕ) (frame : List ℕ) (a : Answer) where
 
 pub ruleset lends = (row-of, served-sent, served-working, served-signs, lent-full, lent-few, encode-lent, flip-lent, soft-lent, needs)
 
-pub ruleset served-or-not = (soft-no-room, soft-room, ne-eqb, needs)
+pub ruleset served-or-not = (soft-no-room, soft-room, eq-eqb, ne-eqb, needs)
