@@ -1,4 +1,7 @@
 // Reads a bench sheet from standard input and writes the answer to standard output.
+
+#![tactic(auto)]
+
 ghost use Rattle.std.specs.Prelude.{length};
 ghost use Rattle.bench.specs.Input.{Within};
 

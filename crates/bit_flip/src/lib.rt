@@ -1,4 +1,7 @@
 // Bit flipping, a decoder of hard information. (Rust: decode_bf and decode_erasures of decoder.rs)
+
+#![tactic(auto)]
+
 ghost use Rattle.std.specs.Prelude.{◌≡◌, ◌-◌, ◌*◌, ◌≤◌, length, take};
 ghost use Rattle.maths.specs.Lists.{span};
 ghost use Rattle.maths.specs.Bits.{bit_at};

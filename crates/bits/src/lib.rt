@@ -1,4 +1,7 @@
 // Byte strings as one byte for a bit, the highest bit of a byte first.
+
+#![tactic(auto)]
+
 ghost use Rattle.std.specs.Prelude.{◌≡◌, ◌+◌, ◌≤◌, max, length, get_or, replicate};
 ghost use Rattle.std.proofs.lemmas.List.Edits.{sets};
 ghost use Rattle.maths.specs.Lists.{largest_of};

@@ -1,4 +1,7 @@
 // A case of the list that `replay` runs: an operation with what it reads, and what the Rust answered.
+
+#![tactic(auto)]
+
 ghost use Rattle.std.specs.Prelude.{◌≡◌};
 ghost use Rattle.maths.specs.Tests.{Agrees};
 ghost use Rattle.cases.specs.Cases.{read_len, written_len, recorded};

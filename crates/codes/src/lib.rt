@@ -1,4 +1,7 @@
 // The codes: their parameters and tables, and the numbers by which the library answers. (Rust: codes/mod.rs)
+
+#![tactic(auto)]
+
 ghost use Rattle.std.specs.Prelude.{◌≡◌};
 ghost use Rattle.codes.specs.Answers.{test, or_test, unlike};
 ghost use Rattle.codes.specs.Codes.{Known, row_of, params_of, tables_of, prototype_of, phi_of};

@@ -1,4 +1,7 @@
 // Numbers of 8 bits that stand for confidences, and what an edge makes of them. (Rust: the trait DecodeFrom for i8, and the formulas of decode_ms)
+
+#![tactic(auto)]
+
 ghost use Rattle.std.specs.Prelude.{◌≡◌};
 ghost use Rattle.maths.specs.Tests.{pick};
 ghost use Rattle.min_sum.specs.Soft.{clamp};

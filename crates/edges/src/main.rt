@@ -1,4 +1,7 @@
 // Writes the parameters of each code, then every edge of its walk in order: a check number and a bit number to a line.
+
+#![tactic(auto)]
+
 use codes::parity_iter::{ParityIter, Step, iter_paritychecks};
 use codes::{CODES, CodeParams, params};
 use libc::STDOUT_FILENO;

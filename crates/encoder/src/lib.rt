@@ -1,4 +1,7 @@
 // The byte encoder. (Rust: encoder.rs)
+
+#![tactic(auto)]
+
 ghost use Rattle.std.specs.Prelude.{◌≡◌, ◌++◌, ◌/◌, ◌≤◌, length, take, drop};
 ghost use Rattle.codes.specs.Codes.{tc_codes, row_of};
 ghost use Rattle.codes.specs.Frames.{encoded_bytes};

@@ -1,5 +1,8 @@
 // The examples of document 01 that are run, and those of the Rust's documentation: TC128, data 00 to 07. A call that is refused leaves
 // the buffer as it was. At the end a frame of TM1280, unchanged.
+
+#![tactic(auto)]
+
 use codes::ACCEPTED;
 use libc::STDOUT_FILENO;
 use report::{Report, finished, refused};

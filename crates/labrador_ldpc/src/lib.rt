@@ -1,5 +1,8 @@
 // The library for C and Rust programs to link: include/labrador_ldpc.h says what each function does.
 // A slice is a pointer and then a length there; each function's promise is that of the library's own function.
+
+#![tactic(auto)]
+
 ghost use Rattle.std.specs.Prelude.{◌≡◌, pos, negsuc, length};
 ghost use Rattle.encoder.specs.Outcomes.{encoded, encode_outcome, copy_encode_outcome};
 ghost use Rattle.report.specs.Report.{flag};

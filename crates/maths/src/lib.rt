@@ -1,1 +1,3 @@
 // Mathematics that the crates share, in specs/ and proofs/: no function.
+
+#![tactic(auto)]

@@ -1,4 +1,7 @@
 // Doors for measuring: the walk edge by edge, and the list of runs, which the library's own interface does not show.
+
+#![tactic(auto)]
+
 ghost use Rattle.std.specs.Prelude.{◌≡◌, ◌+◌, ◌%◌, length};
 ghost use Rattle.runs.specs.Runs.{runs};
 ghost use Rattle.measure.specs.Sum.{sum_of};

@@ -1,4 +1,7 @@
 // The messages of min-sum on confidences of 8 bits, edge by edge: what an edge reads and stores, over runs of edges. (Rust: the two loops of decode_ms)
+
+#![tactic(auto)]
+
 ghost use Rattle.std.specs.Prelude.{◌≡◌, length};
 ghost use mathlib.Core.List.{flat_map};
 ghost use Rattle.maths.specs.Lists.{fold};

@@ -1,4 +1,7 @@
 // Min-sum decoding on confidences of 8 bits. (Rust: decode_ms of decoder.rs)
+
+#![tactic(auto)]
+
 ghost use mathlib.Core.List.{[], flat_map};
 ghost use Rattle.std.specs.Prelude.{◌≡◌, ◌-◌, ◌*◌, ◌≤◌, length, take, replicate};
 ghost use Rattle.runs.specs.Runs.{run_edges, read_runs};

@@ -1,5 +1,8 @@
 // Runs a list of the Rust's answers and compares every answer and byte. tools/rust-answers makes the list, data/cases;
 // compare/src/bin/record.rs says how a case is written.
+
+#![tactic(auto)]
+
 mod list;
 mod operations;
 

@@ -1,4 +1,7 @@
 // What a decoder answers: a number, whether it succeeded, and its iterations. (Rust: the pair that decode_bf and decode_ms return)
+
+#![tactic(auto)]
+
 ghost use Rattle.std.specs.Prelude.{◌≡◌};
 ghost use Rattle.report.specs.Report.{refusal, ending};
 

@@ -1,4 +1,7 @@
 // The edges of a code as a short list of runs, in the order of the walk: what the decoders loop over. (The Rust walks edge by edge.)
+
+#![tactic(auto)]
+
 ghost use Rattle.std.specs.Prelude.{◌≡◌, ◌+◌, ◌*◌, ◌/◌, ◌<◌, ◌≤◌, [], ◌∷◌, slice_index_or};
 ghost use mathlib.Core.List.{flat_map};
 ghost use Rattle.codes.specs.declared.parity_iter.Block.TheVariants.{Permutation};

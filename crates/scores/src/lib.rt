@@ -1,4 +1,7 @@
 // What the checks give to their bits, and the flip by it. A check's byte is 1 where it is broken; a bit's byte is the bit and, while scores are counted, twice its score.
+
+#![tactic(auto)]
+
 ghost use Rattle.std.specs.Prelude.{◌≡◌, map, length};
 ghost use Rattle.maths.specs.Lists.{fold};
 ghost use Rattle.runs.specs.Runs.{run, laid};

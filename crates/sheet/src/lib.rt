@@ -1,4 +1,7 @@
 // The bench sheet: four lines of text that ask for one operation, and four that answer.
+
+#![tactic(auto)]
+
 ghost use Rattle.std.specs.Prelude.{◌≡◌};
 ghost use Rattle.sheet_text.specs.Printing.{answer_of};
 ghost use Rattle.sheet.specs.Sheet.{sheet_of, answer_to};

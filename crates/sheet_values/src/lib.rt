@@ -1,4 +1,7 @@
 // What the value of a line of a bench sheet says.
+
+#![tactic(auto)]
+
 ghost use Rattle.std.specs.Prelude.{true, ◌≡◌, ◌≤◌, ◌*◌, length};
 ghost use Rattle.std.proofs.lemmas.List.Edits.{sets};
 ghost use Rattle.sheet_values.specs.Values.{value_of, digit_of, number_of, number_from, begins, same, op_of, hex_text, unhex, unhexed};

@@ -1,4 +1,7 @@
 // The constants that the codes are made of: prototypes and permutations of the parity check matrices, and generators. (Rust: the two other files of codes/)
+
+#![tactic(auto)]
+
 ghost use Rattle.std.specs.Prelude.{◌≡◌, ◌<◌};
 ghost use Rattle.tables.specs.Choice.{listed, table_at};
 ghost use Rattle.tables.specs.Tables.{prototypes, phis};
