@@ -13,7 +13,7 @@ pub mod soft;
 
 // The head of a case: its operation (1 encoders, 2 bit flipping, 3 min-sum, 4 hard_to_llrs, 5 llrs_to_hard, 6 a bench sheet),
 // the code, the limit, and what the Rust reported; of a sheet how long the text and the answer are.
-#[derive(Drop)]
+#[derive(Clone, Copy)]
 pub struct Case {
     pub op: u8,
     pub code: usize,

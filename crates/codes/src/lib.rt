@@ -64,7 +64,7 @@ pub const MAX_SIGNS: usize = 768;
 // No TC code has more checks. Room for all takes such a frame longer to clear, so the decoders make it of one of two sizes.
 pub const FEW_CHECKS: usize = 256;
 
-#[derive(Drop)]
+#[derive(Clone, Copy)]
 pub struct CodeParams {
     // Bits sent.
     pub n: usize,
@@ -210,7 +210,7 @@ const NO_CODE: CodeParams = CodeParams {
 };
 
 // Which prototype and which table phi a code's matrix is made of.
-#[derive(Drop)]
+#[derive(Clone, Copy)]
 pub struct MatrixTables {
     pub prototype: usize,
     pub phi: usize,
@@ -256,7 +256,7 @@ const TABLES: [MatrixTables; CODES] = [
 ];
 
 // An answer, and the parameters of the code, all 0 where it is refused.
-#[derive(Drop)]
+#[derive(Clone, Copy)]
 pub struct ParamsAnswer {
     pub answer: u8,
     pub row: CodeParams,

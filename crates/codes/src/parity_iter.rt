@@ -9,14 +9,14 @@ use crate::{ACCEPTED, CODES, UNKNOWN_CODE, phi_of, prototype_of, row_of};
 use tables::compact_parity_checks::THETA_K;
 
 // The number of a check, and the number of a bit: two types, so that neither can be used as the other.
-#[derive(Drop)]
+#[derive(Clone, Copy)]
 pub struct Check(pub usize);
 
-#[derive(Drop)]
+#[derive(Clone, Copy)]
 pub struct Bit(pub usize);
 
 // A block of a prototype: a layer of a cell.
-#[derive(Drop)]
+#[derive(Clone, Copy)]
 pub struct Place {
     pub row: usize,
     pub col: usize,
@@ -24,14 +24,14 @@ pub struct Place {
 }
 
 // The next block that has edges.
-#[derive(Drop)]
+#[derive(Clone, Copy)]
 pub enum Found {
     At(Place),
     Nothing,
 }
 
 // What a prototype byte says: no more layers, no edges, an identity turned by a value, or a permutation.
-#[derive(Drop)]
+#[derive(Clone, Copy)]
 pub enum Block {
     Ends,
     Empty,
@@ -138,7 +138,7 @@ pub fn wide(x: u16) -> usize
 }
 
 // A walk stands at an edge: row i of a block. Where its numbers are no edge's, it is finished.
-#[derive(Drop)]
+#[derive(Clone, Copy)]
 pub struct ParityIter {
     pub code: usize,
     pub row: usize,
@@ -147,14 +147,14 @@ pub struct ParityIter {
     pub i: usize,
 }
 
-#[derive(Drop)]
+#[derive(Clone, Copy)]
 pub enum Step {
     Next(Check, Bit, ParityIter),
     Finished,
 }
 
 // An answer, and the walk over the code's edges, finished where the code is refused.
-#[derive(Drop)]
+#[derive(Clone, Copy)]
 pub struct Begun {
     pub answer: u8,
     pub walk: ParityIter,

@@ -10,7 +10,7 @@ use runs::TRIPLES;
 
 // First u and then v, an element for each edge; the marginals, one for each bit; the first minima and then the second, one for each check.
 // How many there are of each, and where the last three begin.
-#[derive(Drop)]
+#[derive(Clone, Copy)]
 pub struct Layout {
     pub edges: usize,
     pub bits: usize,
@@ -69,7 +69,7 @@ fn lies_in(at: Layout, numbers: usize, bytes: usize) -> bool
 }
 
 // Whether a run lies within a layout, and how many edges it has.
-#[derive(Drop)]
+#[derive(Clone, Copy)]
 struct Looked {
     within: bool,
     size: usize,

@@ -5,7 +5,7 @@
 ghost use Rattle.std.specs.Prelude.{◌≡◌};
 ghost use Rattle.report.specs.Report.{refusal, ending};
 
-#[derive(Drop)]
+#[derive(Clone, Copy)]
 pub struct Report {
     pub answer: u8,
     pub success: bool,
@@ -13,7 +13,7 @@ pub struct Report {
 }
 
 // How the passes of a decoder ended: with success or not, and the number of the pass that found every equation met, or of all passes.
-#[derive(Drop)]
+#[derive(Clone, Copy)]
 pub struct Ended {
     pub success: bool,
     pub iters: usize,

@@ -22,14 +22,14 @@ pub mod meets;
 pub const TRIPLES: usize = 792;
 
 // The runs of a code, count of them, three numbers each: the first check, the first bit, and how many edges (check + i, bit + i) there are.
-#[derive(Drop)]
+#[derive(Clone, Copy)]
 pub struct Runs {
     pub count: usize,
     pub triples: [u16; TRIPLES],
 }
 
 // One run: its first check, its first bit, and how many edges it has.
-#[derive(Drop)]
+#[derive(Clone, Copy)]
 pub struct EdgeRun {
     pub check: Check,
     pub bit: Bit,

@@ -12,7 +12,7 @@ use codes::parity_iter::{Bit, Check};
 use codes::{ACCEPTED, CodeParams, MAX_BITS, MAX_CHECKS, WRONG_READ, or_length, params};
 
 // An answer, and whether the word meets every equation.
-#[derive(Drop)]
+#[derive(Clone, Copy)]
 pub struct Met {
     pub answer: u8,
     pub met: bool,

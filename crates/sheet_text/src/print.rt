@@ -11,7 +11,7 @@ const MAX_OUTPUT: usize = 1280;
 pub const ROOM: usize = 2720;
 
 // The first len bytes are the text.
-#[derive(Drop)]
+#[derive(Clone, Copy)]
 pub struct Answer {
     pub len: usize,
     pub bytes: [u8; ROOM],

@@ -10,14 +10,14 @@ const LONGEST: usize = 8192;
 pub const TEXT_ROOM: usize = LONGEST + 1;
 
 // A line's value stands between two places, and the newline at the second.
-#[derive(Drop)]
+#[derive(Clone, Copy)]
 pub(crate) enum Line {
     Missing,
     Between(usize, usize),
 }
 
 // The parts of a well-formed sheet; the frame's hex digits stand in the text from start on.
-#[derive(Drop)]
+#[derive(Clone, Copy)]
 pub struct Request {
     pub code: usize,
     pub op: Op,
@@ -26,7 +26,7 @@ pub struct Request {
     pub digits: usize,
 }
 
-#[derive(Drop)]
+#[derive(Clone, Copy)]
 pub enum Reading {
     Malformed,
     Asks(Request),

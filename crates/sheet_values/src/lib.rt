@@ -10,13 +10,13 @@ ghost use Rattle.sheet_values.specs.Values.{value_of, digit_of, number_of, numbe
 const LARGEST: usize = 4294967295;
 
 // A number, or a text that is none.
-#[derive(Drop)]
+#[derive(Clone, Copy)]
 pub enum Number {
     Is(usize),
     NoNumber,
 }
 
-#[derive(Drop)]
+#[derive(Clone, Copy)]
 pub enum Op {
     Encode,
     Bf,
@@ -24,7 +24,7 @@ pub enum Op {
 }
 
 // An operation, or a text that names none.
-#[derive(Drop)]
+#[derive(Clone, Copy)]
 pub enum Named {
     Names(Op),
     NoName,
