@@ -1,0 +1,10 @@
+use Prim.Native.Nat.{◌+◌, ◌-◌, ◌*◌}
+use Rattle.codes.specs.Blocks.{head_of, blocks_from}
+use Rattle.codes.proofs.Blocks.{Asking}
+use Rattle.codes.proofs.parity_iter.block_from.Given as goal
+
+abbrev pub invariant-loop-row : goal.invariant-loop-row
+invariant-loop-row l = Asking l.h (head_of (blocks_from l.h l.fn.row l.fn.col l.fn.l)) l.row l.col l.l
+
+abbrev pub decreases-loop-row : goal.decreases-loop-row
+decreases-loop-row l = 8 * (44 - (11 * l.row + l.col)) + (3 - l.l)
