@@ -1,6 +1,4 @@
-use Prim.Native.Nat.{◌-◌}
-use lib.ListN.{length}
-use Rattle.sheet_values.proofs.Turns.{Digits, turns}
+use Rattle.sheet_values.proofs.Turns.{turns}
 use Rattle.sheet_values.proofs.number_from.Goals as goal
 
 pub loop-i-init : goal.loop-i-init

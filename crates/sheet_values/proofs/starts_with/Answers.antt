@@ -1,6 +1,4 @@
-use Prim.Native.Nat.{◌-◌}
-use lib.ListN.{length}
-use Rattle.sheet_values.proofs.Turns.{Matching, turns}
+use Rattle.sheet_values.proofs.Turns.{turns}
 use Rattle.sheet_values.proofs.starts_with.Goals as goal
 
 pub returns-then-s-word : goal.returns-then-s-word
