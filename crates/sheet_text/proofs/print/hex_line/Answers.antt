@@ -1,12 +1,6 @@
 use Rattle.sheet_text.proofs.Writes.{rooms}
 use Rattle.sheet_text.proofs.print.hex_line.Goals as goal
 
-pub put_word-t-requires : goal.put_word-t-requires
-put_word-t-requires c = search rooms
-
-pub put_hex-u-requires : goal.put_hex-u-requires
-put_hex-u-requires c = search rooms
-
 pub put_word-requires : goal.put_word-requires
 put_word-requires c = search rooms
 

@@ -1,9 +1,6 @@
 use Rattle.sheet_text.proofs.Writes.{rooms}
 use Rattle.sheet_text.proofs.print.number_line.Goals as goal
 
-pub put_word-t-requires : goal.put_word-t-requires
-put_word-t-requires c = search rooms
-
 pub put_decimal-u-requires : goal.put_decimal-u-requires
 put_decimal-u-requires c = search rooms
 
