@@ -1,34 +1,11 @@
-use Prim.Native.Nat.{◌-◌}
-use lib.ListN.{length}
-use Rattle.cases.proofs.Confidence.{Softening, softens}
+use Rattle.cases.proofs.Confidence.{softens}
 use Rattle.cases.proofs.soft.soften.Goals as goal
-
-pub returns-then-soft-bytes : goal.returns-then-soft-bytes
-returns-then-soft-bytes c = search softens
 
 pub loop-i-init : goal.loop-i-init
 loop-i-init c = search softens
 
-pub bounds-bytes-i : goal.bounds-bytes-i
-bounds-bytes-i c = search softens
-
-pub soft_of-requires : goal.soft_of-requires
-soft_of-requires c = search softens
-
-pub bounds-soft-i : goal.bounds-soft-i
-bounds-soft-i c = search softens
-
-pub overflow_step-i : goal.overflow_step-i
-overflow_step-i c = search softens
-
-pub loop-i-smaller : goal.loop-i-smaller
-loop-i-smaller c = search softens
-
 pub loop-i-preserved : goal.loop-i-preserved
 loop-i-preserved c = search softens
-
-pub shape_of-soft : goal.shape_of-soft
-shape_of-soft c = search softens
 
 pub returns : goal.returns
 returns c = search softens
