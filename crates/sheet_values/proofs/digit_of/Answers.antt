@@ -1,5 +1,4 @@
 use borrow.Author.Tests.{lt-ltb, le-ltb, eq-eqb, ne_eqb}
-use borrow.Author.Rules.{rules}
 use Rattle.sheet_values.proofs.digit_of.Goals as goal
 
 pub returns-then-v-ne1 : goal.returns-then-v-ne1
