@@ -15,9 +15,7 @@ pub bounds-marks-i : goal.bounds-marks-i
 bounds-marks-i c = omega arith
 
 pub loop-i-preserved : goal.loop-i-preserved
-loop-i-preserved c = let t = c in
-    (omega arith, even_more t.args.marks.now t.loop-i.odd t.loop-i.i t.loop-i.invariant.1 c.larger-odd.ensures)
+loop-i-preserved c = (omega arith, even_more c.args.marks.now c.loop-i.odd c.loop-i.i c.loop-i.invariant.1 c.larger-odd.ensures)
 
 pub returns : goal.returns
-returns c = let t = c in
-    even_all t.args.marks.now t.loop-i.odd t.loop-i.i t.loop-i.invariant.1 (omega arith)
+returns c = even_all c.args.marks.now c.loop-i.odd c.loop-i.i c.loop-i.invariant.1 (omega arith)
