@@ -22,10 +22,10 @@ fn fail(rt: &impl Eprint, what: &str, why: io::Error) {
 }
 
 // One read, which may bring less than there is; nothing at the end of the input. One that fails is told.
-fn read_some(rt: &(impl io::Input + Eprint), rest: &mut [u8]) -> Input
+fn read_some(rt: &impl Eprint, from: &mut impl Read, rest: &mut [u8]) -> Input
     ensures { Within result (length rest.new) }
 {
-    match rt.reader().read(rest) {
+    match from.read(rest) {
         Ok(n) => Input::Bytes(n),
         Err(why) => {
             fail(rt, "standard input", why);
@@ -35,12 +35,12 @@ fn read_some(rt: &(impl io::Input + Eprint), rest: &mut [u8]) -> Input
 }
 
 // Reads to the end of the input, or until the buffer is full.
-fn read_text(rt: &(impl io::Input + Eprint), text: &mut [u8]) -> Input
+fn read_text(rt: &impl Eprint, from: &mut impl Read, text: &mut [u8]) -> Input
     ensures { Within result (length text.new) }
 {
     let mut done: usize = 0;
     while done < text.len() {
-        let Input::Bytes(more) = read_some(rt, &mut text[done..]) else {
+        let Input::Bytes(more) = read_some(rt, from, &mut text[done..]) else {
             return Input::Failed;
         };
         if more == 0 {
@@ -60,8 +60,8 @@ fn write_answer(rt: &(impl Print + Eprint), text: &[u8]) {
     }
 }
 
-fn answer_input(rt: &(impl io::Input + Print + Eprint), text: &mut [u8]) {
-    let Input::Bytes(n) = read_text(rt, text) else {
+fn answer_input(rt: &(impl Print + Eprint), from: &mut impl Read, text: &mut [u8]) {
+    let Input::Bytes(n) = read_text(rt, from, text) else {
         return;
     };
     write_answer(rt, &text[..n]);
@@ -69,5 +69,5 @@ fn answer_input(rt: &(impl io::Input + Print + Eprint), text: &mut [u8]) {
 
 fn main(rt: HostRuntime) {
     let mut text = [0u8; TEXT_ROOM];
-    answer_input(&rt, &mut text);
+    answer_input(&rt, &mut rt.stdin(), &mut text);
 }
