@@ -65,7 +65,7 @@ module _ (bytes : List ℕ) (soft₀ : List ℤ) where
 
   module _ (i : ℕ) (soft : List ℤ) (r : Softening bytes soft₀ i soft) where
     pub soften_more : (x : ℤ) → x ≡ signed_at bytes i → mag x < 2 ^ hbits w8 → i < length bytes → Softening bytes soft₀ (i + 1) (set soft i (to_z w8 (of_z w8 x)))
-    soften_more x e f h = record { same = r.same; written = written_more r.written h (sym r.same) (to_z-of_z (record { sfits = f }) ∙ e) }
+    soften_more x e f h = record { same = r.same; written = written_more r.written h (sym r.same) (to_z-of_z {w = w8} (record { sfits = f }) ∙ e) }
 
     pub soften_ends : length bytes ≤ i → soft ≡ softened bytes soft₀
     soften_ends h =
@@ -96,7 +96,7 @@ module _ (soft : List ℤ) (bytes : List ℕ) where
           record {
             low = omega arith;
             long = r.long;
-            front = below_more (λ (k : ℕ). get_or soft k (pos 0) ≡ signed_at bytes k) i r.front (sym (to_z-of_z (record { sfits = f })) ∙ ap (to_z w8) h ∙ to_z-of_z (record { sfits = g }) ∙ e);
+            front = below_more (λ (k : ℕ). get_or soft k (pos 0) ≡ signed_at bytes k) i r.front (sym (to_z-of_z {w = w8} (record { sfits = f })) ∙ ap (to_z w8) h ∙ to_z-of_z {w = w8} (record { sfits = g }) ∙ e);
           }
 
     pub same_ends : length bytes ≤ i → Agrees true (soft ≡ map signed bytes)

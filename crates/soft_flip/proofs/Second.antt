@@ -1,7 +1,7 @@
 -- Pass 1 on confidences of one size: each marginal is the sum of the confidence given and of its messages. Assumes nothing.
 use mathlib.Core.Bool.{Bool, false, not}
 use mathlib.Core.List.{List, [], ◌∷◌, ◌++◌, append-nil}
-use mathlib.Core.Path.{◌≡◌, refl, sym, ap, ◌∙◌}
+use mathlib.Core.Path.{◌≡◌, refl, sym, ap, ◌∙◌, subst}
 use Prim.Native.Nat.{ℕ, zero, suc, ◌≤◌, ◌<◌}
 use native.Mathlib.Decide.{ℕ_discrete, dec_lt}
 use native.Mathlib.Omega.{arith}
@@ -87,7 +87,10 @@ module _ (top k : ℕ) (fits : suc k ≤ top) where
         go (no x) = rw (ne_eqb e.bit i x, get_or-set_other s.marginals e.bit i (add top (at o s.marginals e.bit) (level k (sign j e es s q))) (pos 0) (λ y. x (sym y)))
         go (yes x) =
             let low : e.bit < length s.marginals = omega (arith, within j e es s q, q.long) in
-            rw (eq-eqb e.bit i x, ← x, get_or-set_same s.marginals e.bit (add top (at o s.marginals e.bit) (level k (sign j e es s q))) (pos 0) low)
+            let next = add top (at o s.marginals e.bit) (level k (sign j e es s q)) in
+            let P : ℕ → Type 0 = λ v. total top k (signs odd (r v) (checks_of es v)) (at o (set s.marginals e.bit next) v)
+            ≡ total top k (signs odd (r v) (pick (eqb e.bit v) (e.check ∷ checks_of es v) (checks_of es v))) (at o s.marginals v) in
+            subst P x (rw (eq-eqb e.bit e.bit refl, get_or-set_same s.marginals e.bit next (pos 0) low))
 
   -- ---- pass 0 and then pass 1
   module _ (es : List Edge) (m n : ℕ) (ranged : T (all (in_range m n) es)) (two : (a : ℕ) → a < m → 2 ≤ length (bits_of es a))

@@ -1,5 +1,4 @@
 use borrow.Author.Tests.{eq-eqb, ne_eqb}
-use borrow.Author.Rules.{rules}
 use Rattle.sheet_values.proofs.is.Goals as goal
 
 pub returns-then-v-word : goal.returns-then-v-word

@@ -3,6 +3,7 @@ use lib.ListN.{length}
 use Rattle.sheet_values.proofs.Writes.{Unhexing}
 use Rattle.sheet_values.proofs.put_bytes.Given as goal
 
+-- the first j bytes are written
 abbrev pub invariant-loop-j : goal.invariant-loop-j
 invariant-loop-j l = Unhexing l.digits l.initial.out l.j l.out
 

@@ -1,28 +1,11 @@
-use Prim.Native.Nat.{◌-◌}
-use lib.ListN.{length}
-use Rattle.sheet_values.proofs.Turns.{Matching, turns}
+use Rattle.sheet_values.proofs.Turns.{turns}
 use Rattle.sheet_values.proofs.starts_with.Goals as goal
 
 pub returns-then-s-word : goal.returns-then-s-word
 returns-then-s-word c = search turns
 
-pub loop-i-init : goal.loop-i-init
-loop-i-init c = search turns
-
-pub bounds-s-i : goal.bounds-s-i
-bounds-s-i c = search turns
-
-pub bounds-word-i : goal.bounds-word-i
-bounds-word-i c = search turns
-
 pub returns-then-s-i : goal.returns-then-s-i
 returns-then-s-i c = search turns
-
-pub overflow_step-i : goal.overflow_step-i
-overflow_step-i c = search turns
-
-pub loop-i-smaller : goal.loop-i-smaller
-loop-i-smaller c = search turns
 
 pub loop-i-preserved : goal.loop-i-preserved
 loop-i-preserved c = search turns

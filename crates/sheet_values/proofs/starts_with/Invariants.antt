@@ -3,6 +3,7 @@ use lib.ListN.{length}
 use Rattle.sheet_values.proofs.Turns.{Matching}
 use Rattle.sheet_values.proofs.starts_with.Given as goal
 
+-- the first i bytes are the word's
 abbrev pub invariant-loop-i : goal.invariant-loop-i
 invariant-loop-i l = Matching l.word l.s l.i
 

@@ -1,6 +1,5 @@
 use native.Mathlib.Omega.{arith}
 use Rattle.sheet_values.proofs.Glyphs.{value_below, value_digit, value_between, value_letter, value_above}
-use borrow.Author.Rules.{rules}
 use Rattle.sheet_values.proofs.value_of.Goals as goal
 
 pub returns-in-48-to-57 : goal.returns-in-48-to-57

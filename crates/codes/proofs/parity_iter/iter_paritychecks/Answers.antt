@@ -10,12 +10,11 @@ use Rattle.codes.proofs.parity_iter.iter_paritychecks.Goals as goal
 
 pub returns-then-code-lt-CODES : goal.returns-then-code-lt-CODES
 unfolding new_of blocks_of
-returns-then-code-lt-CODES c = let p = c in
-    simp (lt-ltb _ _ p.if-code-lt-CODES.true)
+returns-then-code-lt-CODES c = simp (lt-ltb _ _ c.if-code-lt-CODES.true)
     (ap (λ (w : ParityIter). record { answer = 0; walk = w })
     (c.start_at.ensures
     ∙ ap (start_at _)
-    (c.first_block.ensures ∙ ap (λ (H : List (List (List ℕ))). head_of (blocks H)) p.prototype_of-h.ensures)))
+    (c.first_block.ensures ∙ ap (λ (H : List (List (List ℕ))). head_of (blocks H)) c.prototype_of-h.ensures)))
 
 pub returns-else-code-lt-CODES : goal.returns-else-code-lt-CODES
 unfolding new_of blocks_of

@@ -8,9 +8,7 @@ pub returns-then-p-ge11 : goal.returns-then-p-ge11
 returns-then-p-ge11 c = rw (lt-ltb _ _ c.if-p-ge4.false, le-ltb _ _ c.if-p-ge11.true)
 
 pub returns-then-p-ge3 : goal.returns-then-p-ge3
-returns-then-p-ge3 c = let t = c in rw (lt-ltb _ _ t.if-p-ge4.false, lt-ltb _ _ t.if-p-ge11.false, le-ltb _ _ c.if-p-ge3.true)
+returns-then-p-ge3 c = rw (lt-ltb _ _ c.if-p-ge4.false, lt-ltb _ _ c.if-p-ge11.false, le-ltb _ _ c.if-p-ge3.true)
 
 pub returns : goal.returns
-returns c = let l = c in
-    let t = l in
-    rw (lt-ltb _ _ t.if-p-ge4.false, lt-ltb _ _ t.if-p-ge11.false, lt-ltb _ _ l.if-p-ge3.false) c.block_from.ensures
+returns c = rw (lt-ltb _ _ c.if-p-ge4.false, lt-ltb _ _ c.if-p-ge11.false, lt-ltb _ _ c.if-p-ge3.false) c.block_from.ensures

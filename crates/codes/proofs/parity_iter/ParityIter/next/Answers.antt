@@ -12,11 +12,9 @@ returns-then-i-m c = simp (lt-ltb _ _ (rw c.requires.1 at c.if-i-m.true))
 
 pub returns-else-i-m : goal.returns-else-i-m
 unfolding next_of
-returns-else-i-m c = let p = c in
-    let s = p in
-    let w = s.args.self in
-    simp (le-ltb _ _ (rw s.requires.1 at p.if-i-m.false))
+returns-else-i-m c = let w = c.args.self in
+    simp (le-ltb _ _ (rw c.requires.1 at c.if-i-m.false))
     (c.start_at.ensures
     ∙ ap (start_at _)
     (c.block_from.ensures
-    ∙ ap (λ (H : List (List (List ℕ))). head_of (blocks_from H w.row w.col (w.layer + 1))) p.prototype_of-h.ensures))
+    ∙ ap (λ (H : List (List (List ℕ))). head_of (blocks_from H w.row w.col (w.layer + 1))) c.prototype_of-h.ensures))

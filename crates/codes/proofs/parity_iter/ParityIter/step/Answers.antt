@@ -81,14 +81,13 @@ returns-then-l-ge3 c = stepped _ _ (simp (lt-ltb _ _ c.if-code-ge-CODES.false, l
 
 pub returns-then-i-m : goal.returns-then-i-m
 unfolding step_of thetas
-returns-then-i-m c = let d = c in
-    stepped _ _ (simp (
-      lt-ltb _ _ d.if-code-ge-CODES.false,
-      lt-ltb _ _ d.if-row-ge4.false,
-      lt-ltb _ _ d.if-col-ge11.false,
-      lt-ltb _ _ d.if-l-ge3.false,
-      le-ltb _ _ (rw c.row_of-m.ensures at c.if-i-m.true),
-    ))
+returns-then-i-m c = stepped _ _ (simp (
+  lt-ltb _ _ c.if-code-ge-CODES.false,
+  lt-ltb _ _ c.if-row-ge4.false,
+  lt-ltb _ _ c.if-col-ge11.false,
+  lt-ltb _ _ c.if-l-ge3.false,
+  le-ltb _ _ (rw c.row_of-m.ensures at c.if-i-m.true),
+))
 
 pub identity_column-requires : goal.identity_column-requires
 unfolding step_of thetas
