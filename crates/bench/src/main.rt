@@ -5,8 +5,9 @@
 ghost use Rattle.std.specs.Prelude.{length};
 ghost use Rattle.bench.specs.Input.{Within};
 
-use libc::{STDIN_FILENO, STDOUT_FILENO};
 use sheet_text::read::TEXT_ROOM;
+use std::io;
+use std::io::Read;
 
 // What came: so many bytes, or a read that failed.
 #[derive(Clone, Copy)]
@@ -15,24 +16,31 @@ enum Input {
     Bytes(usize),
 }
 
-// One read, which may bring less than there is; nothing at the end of the input.
-fn read_some(rest: &mut [u8]) -> Input
+// Writes a line to standard error: what failed, a colon and why.
+fn fail(rt: &impl Eprint, what: &str, why: io::Error) {
+    let _ = eprintln!(rt; "{what}: {why}");
+}
+
+// One read, which may bring less than there is; nothing at the end of the input. One that fails is told.
+fn read_some(rt: &(impl io::Input + Eprint), rest: &mut [u8]) -> Input
     ensures { Within result (length rest.new) }
 {
-    let got = libc::read(STDIN_FILENO, rest);
-    if got < 0 {
-        return Input::Failed;
+    match rt.reader().read(rest) {
+        Ok(n) => Input::Bytes(n),
+        Err(why) => {
+            fail(rt, "standard input", why);
+            Input::Failed
+        }
     }
-    Input::Bytes(io::count(got, rest))
 }
 
 // Reads to the end of the input, or until the buffer is full.
-fn read_text(text: &mut [u8]) -> Input
+fn read_text(rt: &(impl io::Input + Eprint), text: &mut [u8]) -> Input
     ensures { Within result (length text.new) }
 {
     let mut done: usize = 0;
     while done < text.len() {
-        let Input::Bytes(more) = read_some(&mut text[done..]) else {
+        let Input::Bytes(more) = read_some(rt, &mut text[done..]) else {
             return Input::Failed;
         };
         if more == 0 {
@@ -43,24 +51,23 @@ fn read_text(text: &mut [u8]) -> Input
     Input::Bytes(done)
 }
 
-fn write_answer(text: &[u8]) {
+fn write_answer(rt: &(impl Print + Eprint), text: &[u8]) {
     let a = sheet::sheet(text);
     let bytes = a.bytes;
     let len = a.len;
-    if !io::write_all(STDOUT_FILENO, &bytes[..len]) {
-        os::fail(b"standard output");
+    if let Err(why) = rt.write_all(&bytes[..len]) {
+        fail(rt, "standard output", why);
     }
 }
 
-fn answer_input(text: &mut [u8]) {
-    let Input::Bytes(n) = read_text(text) else {
-        os::fail(b"standard input");
+fn answer_input(rt: &(impl io::Input + Print + Eprint), text: &mut [u8]) {
+    let Input::Bytes(n) = read_text(rt, text) else {
         return;
     };
-    write_answer(&text[..n]);
+    write_answer(rt, &text[..n]);
 }
 
-fn main() {
+fn main(rt: HostRuntime) {
     let mut text = [0u8; TEXT_ROOM];
-    answer_input(&mut text);
+    answer_input(&rt, &mut text);
 }

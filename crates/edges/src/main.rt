@@ -4,43 +4,43 @@
 
 use codes::parity_iter::{ParityIter, Step, iter_paritychecks};
 use codes::{CODES, CodeParams, params};
-use libc::STDOUT_FILENO;
+use std::io;
 
-fn write_number(n: usize, after: u8) {
-    io::print_decimal(STDOUT_FILENO, n as u64);
-    io::write_all(STDOUT_FILENO, &[after]);
+fn write_number(rt: &impl Print, n: usize, after: char) -> io::Result<()> {
+    print!(rt; "{n}{after}")
 }
 
-fn write_row(row: CodeParams) {
-    write_number(row.n, b' ');
-    write_number(row.k, b' ');
-    write_number(row.punctured_bits, b' ');
-    write_number(row.submatrix_size, b' ');
-    write_number(row.circulant_size, b' ');
-    write_number(row.paritycheck_sum as usize, b' ');
-    write_number(row.decode_bf_working_len, b' ');
-    write_number(row.decode_ms_working_len, b' ');
-    write_number(row.decode_ms_working_u8_len, b' ');
-    write_number(row.output_len, b'\n');
+fn write_row(rt: &impl Print, row: CodeParams) -> io::Result<()> {
+    write_number(rt, row.n, ' ')?;
+    write_number(rt, row.k, ' ')?;
+    write_number(rt, row.punctured_bits, ' ')?;
+    write_number(rt, row.submatrix_size, ' ')?;
+    write_number(rt, row.circulant_size, ' ')?;
+    write_number(rt, row.paritycheck_sum as usize, ' ')?;
+    write_number(rt, row.decode_bf_working_len, ' ')?;
+    write_number(rt, row.decode_ms_working_len, ' ')?;
+    write_number(rt, row.decode_ms_working_u8_len, ' ')?;
+    write_number(rt, row.output_len, '\n')
 }
 
-fn write_edges(start: ParityIter) {
+fn write_edges(rt: &impl Print, start: ParityIter) -> io::Result<()> {
     let mut walk = start;
     loop {
         match walk.step() {
             Step::Next(check, bit, next) => {
-                write_number(check.0, b' ');
-                write_number(bit.0, b'\n');
+                write_number(rt, check.0, ' ')?;
+                write_number(rt, bit.0, '\n')?;
                 walk = next;
             }
-            Step::Finished => return,
+            Step::Finished => return Ok(()),
         }
     }
 }
 
-fn main() {
+fn main(rt: HostRuntime) -> io::Result<()> {
     for code in 0..CODES {
-        write_row(params(code).row);
-        write_edges(iter_paritychecks(code).walk);
+        write_row(&rt, params(code).row)?;
+        write_edges(&rt, iter_paritychecks(code).walk)?;
     }
+    Ok(())
 }

@@ -1,5 +1,5 @@
-// The library for C and Rust programs to link: include/labrador_ldpc.h says what each function does.
-// A slice is a pointer and then a length there; each function's promise is that of the library's own function.
+// The functions of the library for C and Rust programs to link: include/labrador_ldpc.h says what each does, and labrador_ldpc_c exports
+// them under these names. Each function's promise is that of the library's own function.
 
 #![tactic(auto)]
 
@@ -29,8 +29,7 @@ fn put_row(to: &mut [usize], p: CodeParams)
     to[9] = p.output_len;
 }
 
-#[unsafe(no_mangle)]
-pub extern "C" fn ldpc_params(code: usize, to: &mut [usize]) -> u8
+pub fn ldpc_params(code: usize, to: &mut [usize]) -> u8
     ensures { row result to.new ≡ params_outcome code to.old }
 {
     let asked = params(code);
@@ -44,29 +43,25 @@ pub extern "C" fn ldpc_params(code: usize, to: &mut [usize]) -> u8
     WRONG_WRITTEN
 }
 
-#[unsafe(no_mangle)]
-pub extern "C" fn ldpc_encode(code: usize, codeword: &mut [u8]) -> u8
+pub fn ldpc_encode(code: usize, codeword: &mut [u8]) -> u8
     ensures { encoded result codeword.new ≡ encode_outcome code codeword.old }
 {
     encoder::encode(code, codeword)
 }
 
-#[unsafe(no_mangle)]
-pub extern "C" fn ldpc_copy_encode(code: usize, data: &[u8], codeword: &mut [u8]) -> u8
+pub fn ldpc_copy_encode(code: usize, data: &[u8], codeword: &mut [u8]) -> u8
     ensures { encoded result codeword.new ≡ copy_encode_outcome code «data».now codeword.old }
 {
     encoder::copy_encode(code, data, codeword)
 }
 
-#[unsafe(no_mangle)]
-pub extern "C" fn ldpc_hard_to_llrs_i8(code: usize, input: &[u8], llrs: &mut [i8]) -> u8
+pub fn ldpc_hard_to_llrs_i8(code: usize, input: &[u8], llrs: &mut [i8]) -> u8
     ensures { written result llrs.new ≡ to_llrs_outcome (negsuc 0) (pos 1) code input.now llrs.old }
 {
     confidence_i8::llrs::hard_to_llrs_i8(code, input, llrs)
 }
 
-#[unsafe(no_mangle)]
-pub extern "C" fn ldpc_llrs_to_hard_i8(code: usize, llrs: &[i8], output: &mut [u8]) -> u8
+pub fn ldpc_llrs_to_hard_i8(code: usize, llrs: &[i8], output: &mut [u8]) -> u8
     ensures { written result output.new ≡ to_hard_outcome i8 code llrs.now output.old }
 {
     confidence_i8::llrs::llrs_to_hard_i8(code, llrs, output)
@@ -79,8 +74,7 @@ fn as_byte(b: bool) -> u8
     if b { 1 } else { 0 }
 }
 
-#[unsafe(no_mangle)]
-pub extern "C" fn ldpc_decode_bf(
+pub fn ldpc_decode_bf(
     code: usize,
     input: &[u8],
     output: &mut [u8],
@@ -97,8 +91,7 @@ pub extern "C" fn ldpc_decode_bf(
     r.answer
 }
 
-#[unsafe(no_mangle)]
-pub extern "C" fn ldpc_decode_ms_i8(
+pub fn ldpc_decode_ms_i8(
     code: usize,
     llrs: &[i8],
     output: &mut [u8],

@@ -3,6 +3,7 @@ ghost use Rattle.std.specs.Prelude.{◌≡◌, ◌+◌, ◌*◌, min};
 
 use cases::Case;
 use codes::parity_iter::byte;
+use std::io::Read;
 
 // The smaller of two: a buffer lends no more than it has.
 pub(crate) fn least(a: usize, b: usize) -> usize
@@ -12,8 +13,8 @@ pub(crate) fn least(a: usize, b: usize) -> usize
 }
 
 // Whether a buffer could be filled from the list.
-pub(crate) fn filled(fd: i32, buf: &mut [u8]) -> bool {
-    io::read_full(fd, buf) == buf.len()
+pub(crate) fn filled(list: &mut impl Read, buf: &mut [u8]) -> bool {
+    list.read_exact(buf).is_ok()
 }
 
 fn joined(low: u8, high: u8) -> usize
@@ -23,9 +24,9 @@ fn joined(low: u8, high: u8) -> usize
 }
 
 // The next case's head; zeros past the end of the list.
-pub(crate) fn head(fd: i32) -> Case {
+pub(crate) fn head(list: &mut impl Read) -> Case {
     let mut bytes = [0u8; 5];
-    filled(fd, &mut bytes);
+    filled(list, &mut bytes);
     Case {
         op: bytes[0],
         code: byte(bytes[1]),

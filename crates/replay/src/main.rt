@@ -9,24 +9,26 @@ mod operations;
 use cases::{Case, read_len, written_len};
 use codes::parity_iter::byte;
 use codes::{CodeParams, MAX_SENT, params};
-use libc::STDOUT_FILENO;
 use list::{filled, head, least};
 use operations::{answers, bit_flipping, encoders, min_sum_i8, to_hard, to_llrs};
 use sheet_text::read::TEXT_ROOM;
+use std::fs::File;
+use std::io;
+use std::io::Read;
 
 // One case, from the list into the buffers that are lent: of the lengths that its operation reads and writes.
 fn run_case(
-    fd: i32,
+    list: &mut impl Read,
     c: Case,
     row: CodeParams,
     read: &mut [u8],
     want: &mut [u8],
     output: &mut [u8],
 ) -> bool {
-    if !filled(fd, read) {
+    if !filled(list, read) {
         return false;
     }
-    if !filled(fd, want) {
+    if !filled(list, want) {
         return false;
     }
     let op = c.op;
@@ -41,51 +43,56 @@ fn run_case(
     }
 }
 
-fn agrees(fd: i32, c: Case) -> bool {
+fn agrees(list: &mut impl Read, c: Case) -> bool {
     let mut read = [0u8; TEXT_ROOM];
     let mut want = [0u8; MAX_SENT];
     let mut output = [0u8; MAX_SENT];
     let row = params(c.code).row;
     let r = least(read_len(c, row), TEXT_ROOM);
     let w = least(written_len(c, row), MAX_SENT);
-    run_case(fd, c, row, &mut read[..r], &mut want[..w], &mut output[..w])
+    run_case(
+        list,
+        c,
+        row,
+        &mut read[..r],
+        &mut want[..w],
+        &mut output[..w],
+    )
 }
 
-fn say(n: usize, what: &[u8]) {
-    io::print_decimal(STDOUT_FILENO, n as u64);
-    io::write_all(STDOUT_FILENO, what);
+fn say(rt: &impl Print, n: usize, what: &str) -> io::Result<()> {
+    print!(rt; "{n}{what}")
 }
 
 // Whether the list goes on after the case numbered i; a head of zeros ends it.
-fn goes_on(fd: i32, i: usize) -> bool {
-    let c = head(fd);
+fn goes_on(rt: &impl Print, list: &mut impl Read, i: usize) -> io::Result<bool> {
+    let c = head(list);
     if c.op == 0 {
-        say(i, b" cases, no difference\n");
-        return false;
+        say(rt, i, " cases, no difference\n")?;
+        return Ok(false);
     }
-    if agrees(fd, c) {
-        return true;
+    if agrees(list, c) {
+        return Ok(true);
     }
-    say(i, b" cases agree, the next differs: operation ");
-    say(byte(c.op), b", code ");
-    say(c.code, b"\n");
-    false
+    say(rt, i, " cases agree, the next differs: operation ")?;
+    say(rt, byte(c.op), ", code ")?;
+    say(rt, c.code, "\n")?;
+    Ok(false)
 }
 
 // No list is longer than a million cases.
-fn run_list(fd: i32) {
+fn run_list(rt: &impl Print, list: &mut impl Read) -> io::Result<()> {
     for i in 0..1000000 {
-        if !goes_on(fd, i) {
-            return;
+        if !goes_on(rt, list, i)? {
+            return Ok(());
         }
     }
+    Ok(())
 }
 
-fn main() {
-    let fd = os::open_read(b"cases");
-    if fd < 0 {
-        os::fail(b"cases");
-        return;
+fn main(rt: HostRuntime) -> io::Result<()> {
+    match File::open(&rt, "cases") {
+        Ok(mut list) => run_list(&rt, &mut list),
+        Err(why) => eprintln!(rt; "cases: {why}"),
     }
-    run_list(fd);
 }
