@@ -6,21 +6,9 @@ use Rattle.encoder.proofs.copy_in.Goals as goal
 pub loop-i-init : goal.loop-i-init
 loop-i-init c = (refl, copied_none c.args.«data».now c.args.codeword.now c.requires)
 
-pub bounds-data-i : goal.bounds-data-i
-bounds-data-i c = omega (arith, c.loop-i.invariant.0)
-
-pub bounds-codeword-i : goal.bounds-codeword-i
-bounds-codeword-i c = omega (arith, c.loop-i.invariant.0, c.loop-i.invariant.1.long)
-
-pub overflow_step-i : goal.overflow_step-i
-overflow_step-i c = omega (arith, c.loop-i.invariant.0)
-
 pub loop-i-preserved : goal.loop-i-preserved
 loop-i-preserved c =
     (c.loop-i.invariant.0, copied_more c.args.«data».now c.args.codeword.now c.requires c.loop-i.invariant.1 (omega (arith, c.loop-i.invariant.0)))
-
-pub shape_of-codeword : goal.shape_of-codeword
-shape_of-codeword c = c.loop-i.invariant.1.long
 
 pub returns : goal.returns
 returns c = copied_all c.args.«data».now c.args.codeword.now c.requires c.loop-i.invariant.1 (omega (arith, c.loop-i.invariant.0))

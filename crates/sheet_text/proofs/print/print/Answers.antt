@@ -11,4 +11,4 @@ pub print_all-requires : goal.print_all-requires
 print_all-requires c = omega (arith, lent_long max_output c.args.output.now (omega arith))
 
 pub returns : goal.returns
-returns c = let a = c.args in rw (take_all max_output a.output.now c.if-output-gt-MAX_OUTPUT.false) c.print_all-2.ensures
+returns c = rw (take_all max_output c.args.output.now c.if-output-gt-MAX_OUTPUT.false) c.print_all-2.ensures
