@@ -15,7 +15,8 @@ use Rattle.report.specs.declared.Report.{Report}
 use Rattle.report.specs.Report.{ending}
 use Rattle.telemetry.specs.Completion.{completion_bytes, Completes}
 use Rattle.telemetry.proofs.Clean.{completes_once, completes_front}
-use Rattle.tm_distance.proofs.Frames.{frame_four, near_completes}
+use Rattle.tm_distance.proofs.Frames.{frame_four}
+use Rattle.tm_distance.proofs.Near.{near_completes}
 use Rattle.agreement.specs.Parties.{Sent, by_copy_encode, Success}
 use Rattle.agreement.specs.Demands.{Decoder, FrameCompletes}
 use Rattle.agreement.specs.Ours.{HardBuffers, bit_flipping}

@@ -37,7 +37,7 @@ sum_one : (n u : ℕ) → u < n → sum_n n (delta u) ≡ 1
 sum_one n u h = sum_n_ext n (delta u) (λ i. 1 * delta i u) (λ i l. omega (arith, delta_swap u i)) ∙ sum_delta (λ i. 1) u n h
 
 -- the word without the one at u
-abbrev without : ℕ → (ℕ → ℕ) → ℕ → ℕ
+abbrev pub without : ℕ → (ℕ → ℕ) → ℕ → ℕ
 without u w v = pick (eqb v u) 0 (w v)
 
 without_add : (u : ℕ) (w : ℕ → ℕ) → w u ≡ 1 → (v : ℕ) → w v ≡ without u w v + delta u v
@@ -57,7 +57,7 @@ taken n w u hu one =
     )
 
 -- the bits of a check that is in row a
-abbrev bits_at : (ℕ → List ℕ) → (ℕ → ℕ) → ℕ → ℕ → List ℕ
+abbrev pub bits_at : (ℕ → List ℕ) → (ℕ → ℕ) → ℕ → ℕ → List ℕ
 bits_at bits row a c = pick (eqb (row c) a) (bits c) []
 
 -- checks, each in a row, and bits by the lists of their ends, which agree; a bit has at most so many beyond one in a row
@@ -66,11 +66,11 @@ module _ (bits : ℕ → List ℕ) (checks : ℕ → List (List ℕ)) (row : ℕ
     (low : (c : ℕ) → T (all (λ v. ltb v n) (bits c)))
     (few : (u : ℕ) → u < n → excess 1 (checks u) ≤ most) where
   -- what is left of a word at a place of the search
-  record Left (r : ℕ) (chosen : List ℕ) (odd : List (List ℕ)) (w : ℕ → ℕ) : Type 0 where
-    bit : (v : ℕ) → w v < 2
-    away : (v : ℕ) → T (shut bits checks most start chosen v) → w v ≡ 0
-    light : sum_n n w ≤ r
-    same : (a c : ℕ) → occurs (get_or odd a []) c ≡ sum_l (bits_at bits row a c) w % 2
+  pub record Left (r : ℕ) (chosen : List ℕ) (odd : List (List ℕ)) (w : ℕ → ℕ) : Type 0 where
+    pub bit : (v : ℕ) → w v < 2
+    pub away : (v : ℕ) → T (shut bits checks most start chosen v) → w v ≡ 0
+    pub light : sum_n n w ≤ r
+    pub same : (a c : ℕ) → occurs (get_or odd a []) c ≡ sum_l (bits_at bits row a c) w % 2
 
   module _ (r : ℕ) (chosen : List ℕ) (odd : List (List ℕ)) (w : ℕ → ℕ) (left : Left r chosen odd w) where
     once : (a : ℕ) → Once (get_or odd a [])
@@ -109,7 +109,7 @@ module _ (bits : ℕ → List ℕ) (checks : ℕ → List (List ℕ)) (row : ℕ
         )
 
   -- a one taken out
-  step : (r : ℕ) (chosen : List ℕ) (odd : List (List ℕ)) (w : ℕ → ℕ) → Left (suc r) chosen odd w → (u : ℕ) → u < n → w u ≡ 1
+  pub step : (r : ℕ) (chosen : List ℕ) (odd : List (List ℕ)) (w : ℕ → ℕ) → Left (suc r) chosen odd w → (u : ℕ) → u < n → w u ≡ 1
       → Left r (u ∷ chosen) (toggle_rows (checks u) odd) (without u w)
   step r chosen odd w left u hu one =
       record {
@@ -146,7 +146,7 @@ module _ (bits : ℕ → List ℕ) (checks : ℕ → List (List ℕ)) (row : ℕ
           go true e = omega arith
           go false e = absurd (omega arith)
 
-  sound : (r : ℕ) (chosen : List ℕ) (odd : List (List ℕ)) (w : ℕ → ℕ) → Left r chosen odd w → T (none bits checks most start r chosen odd) → ⊥
+  pub sound : (r : ℕ) (chosen : List ℕ) (odd : List (List ℕ)) (w : ℕ → ℕ) → Left r chosen odd w → T (none bits checks most start r chosen odd) → ⊥
   sound zero chosen odd w left t =
       let f = first_one zero chosen odd w left (λ c. true) (λ v. ltb v n) (λ c _. low c) t in
       omega (arith, taken n w f.0 f.1 f.2, left.light)
@@ -163,22 +163,3 @@ module _ (bits : ℕ → List ℕ) (checks : ℕ → List (List ℕ)) (row : ℕ
               → T (shut bits checks most start chosen u) ⊎ T (none bits checks most start r (u ∷ chosen) (toggle_rows (checks u) odd)) → ⊥
           at_one u hu one (inl m) = omega (arith, left.away u m)
           at_one u hu one (inr m) = next (u ∷ chosen) (toggle_rows (checks u) odd) (without u w) (step r chosen odd w left u hu one) m
-
-  -- no word with its first one at `start`, and r more at most, has even checks only
-  pub none_light : (r : ℕ) (w : ℕ → ℕ) → ((v : ℕ) → w v < 2) → ((v : ℕ) → v < start → w v ≡ 0) → start < n → w start ≡ 1 → sum_n n w ≤ suc r
-      → ((c : ℕ) → Even (sum_l (bits c) w)) → T (none_beside bits checks most start r) → ⊥
-  none_light r w bit before h one light even t =
-      let whole : Left (suc r) [] [] w =
-      record { bit = bit; away = away; light = light; same = λ a c. same c (eqb (row c) a) } in
-      sound r (start ∷ []) (toggle_rows (checks start) []) (without start w) (step r [] [] w whole start h one) t
-    where
-      same : (c : ℕ) (x : Bool) → 0 ≡ sum_l (pick x (bits c) []) w % 2
-      same c true = sym (even c)
-      same c false = refl
-
-      away : (v : ℕ) → T (shut bits checks most start [] v) → w v ≡ 0
-      away v t = go (either_cases (ltb v start) false t)
-        where
-          go : T (ltb v start) ⊎ T false → w v ≡ 0
-          go (inl l) = before v (ltb→lt v start l)
-          go (inr l) = absurd l

@@ -10,6 +10,7 @@ pub mod Frames
 pub mod Generators
 pub mod Turning
 pub mod RowTest
+pub mod RowSame
 pub mod Weights
 pub mod Apart
 pub mod Telecommand

@@ -145,14 +145,14 @@ module _ (code : ℕ) (known : Known code) (more : List Circ → List ℕ → �
   pos = (sizes code known).some
 
   -- the generator with these blocks, and row i of its G
-  longer : ℕ → ℕ → ℕ
+  unfoldable pub longer : ℕ → ℕ → ℕ
   longer = gen_list b (λ c. generator_blocks code (generator_of code) c ++ more (circs code) (generator_of code) c)
 
-  pub long_row : ℕ → ℕ → ℕ
+  unfoldable pub long_row : ℕ → ℕ → ℕ
   long_row = systematic b k longer
 
   -- the first blocks are the generator's
-  longer_same : (c j : ℕ) → j < parity_blocks code * b → longer c j ≡ generator code c j
+  pub longer_same : (c j : ℕ) → j < parity_blocks code * b → longer c j ≡ generator code c j
   unfolding longer
   longer_same c j h =
       let w = ((row_of code).n - k) / 64 in
@@ -166,21 +166,6 @@ module _ (code : ℕ) (known : Known code) (more : List Circ → List ℕ → �
       ∙ span_get (λ y. generator_bit w words 0 (j / b * b + y)) 0 b (j % b) (mod-lt j pos)
       ∙ ap (generator_bit w words 0) (div-add-mod' j b)
       ∙ rw (zero-mul w, zero-add (j / 64), get_or-drop (c * w) ws (j / 64) 0)
-
-  -- so it starts as the row of G
-  pub row_same : (i v : ℕ) → v < (row_of code).n → long_row i v ≡ g_entry code i v
-  unfolding long_row
-  row_same i v h = go (ltb v k) refl
-    where
-      go : (x : Bool) → ltb v k ≡ x → pick x (delta i v) (w_entry b longer i (v - k)) ≡ pick x (delta i v) (w_entry b (generator code) i (v - k))
-      go true e = refl
-      go false e =
-          let j = v - k in
-          let z = sizes code known in
-          let l : j < parity_blocks code * b = omega (arith, ltb-false v k e, z.parity_blocks_lem) in
-          sym (adds_entry b pos longer i j)
-          ∙ longer_same (i / b) (j / b * b + (j % b + (b - i % b)) % b) (digits_lt ((div-lt_iff_lt-mul pos).1 l) (mod-lt (j % b + (b - i % b)) pos))
-          ∙ adds_entry b pos (generator code) i j
 
   -- and where the test holds it meets every equation
   pub long_meets : T (rows_test code more) → (i : ℕ) → i < k → Meets code (long_row i)

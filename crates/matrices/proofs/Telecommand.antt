@@ -25,7 +25,8 @@ use Rattle.matrices.proofs.Sizes.{bit_blocks, sizes}
 use Rattle.matrices.proofs.Circulants.{of_edges}
 use Rattle.matrices.proofs.Edges.{hold_sum, meets_same, even_word}
 use Rattle.matrices.proofs.Generators.{frame_of_product}
-use Rattle.matrices.proofs.RowTest.{rows_test, long_row, row_same, long_meets}
+use Rattle.matrices.proofs.RowTest.{rows_test, long_row, long_meets}
+use Rattle.matrices.proofs.RowSame.{row_same}
 use Rattle.matrices.proofs.Weights.{odd_test, columns_odd}
 
 -- ---- the computed tests

@@ -33,15 +33,8 @@ use Rattle.two_flips.proofs.Pairs.{own}
 use Rattle.two_flips.proofs.Theorems.{share_own, share_few}
 use Rattle.min_sum.specs.Confidence.{whole}
 use Rattle.min_sum.specs.MinSum.{Messages, hard_bits, start, pass, turn, decoded}
+use Rattle.soft_flip.proofs.Tests.{rows_test, rows_hold}
 use Rattle.soft_flip.proofs.Right.{Spread, Input, pass₁, hard₁, ends, ends_late}
-
--- ---- every check has two edges at least
-rows_test : ℕ → Bool
-rows_test code = let ks = circs code in below (check_blocks code) (λ a. leb 2 (length (in_row ks a)))
-
-rows_hold : T (below tc_codes rows_test)
-unfolding rows_test rows tables prototypes circs flat_map block_circs circs_at span blocks_of last_rows row_blocks cell_blocks block_of
-rows_hold = tt
 
 row_length : (b : ℕ) (js : List Circ) (t : ℕ) → sum_row b js (λ q x. 1) t ≡ length js
 row_length b [] t = refl

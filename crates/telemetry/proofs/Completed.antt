@@ -16,13 +16,15 @@ use Rattle.runs.proofs.Flat.{edges_ranged}
 use Rattle.codes.specs.Frames.{frame_of}
 use Rattle.matrices.proofs.Edges.{hold_sum, par_below, meets_same}
 use Rattle.matrices.proofs.Generators.{frame_of_product}
-use Rattle.matrices.proofs.RowTest.{long_row, row_same, long_meets}
+use Rattle.matrices.proofs.RowTest.{long_row, long_meets}
+use Rattle.matrices.proofs.RowSame.{row_same}
 use Rattle.bit_flip.specs.Outcome.{punctured}
 use Rattle.telemetry.specs.Completion.{lone, sent_parity, completion}
 use Rattle.telemetry.proofs.Sizes.{cut}
 use Rattle.telemetry.proofs.Alone.{lone_sum}
 use Rattle.telemetry.proofs.Votes.{sent_parity_low, where_punctured}
-use Rattle.telemetry.proofs.Tests.{filling, rows_complete_lem}
+use Rattle.telemetry.proofs.Tests.{filling}
+use Rattle.telemetry.proofs.RowsComplete.{rows_complete_lem}
 
 module _ (code : ℕ) (tm : TM code) where
   abbrev known : Known code

@@ -4,5 +4,6 @@ pub mod Alone
 pub mod Votes
 pub mod Repeated
 pub mod Tests
+pub mod RowsComplete
 pub mod Completed
 pub mod Clean

@@ -11,7 +11,7 @@ use Rattle.tables.specs.Words.{generators}
 use Rattle.codes.specs.Codes.{tc_codes, TM, rows, tables, circulant_of}
 use Rattle.codes.specs.Blocks.{block_of, cell_blocks, row_blocks, last_rows}
 use Rattle.codes.specs.Edges.{blocks_of}
-use Rattle.codes.proofs.Codes.{tm_codes, tm_at}
+use Rattle.codes.proofs.Codes.{tm_codes}
 use Rattle.matrices.specs.Circulants.{Circ, circs, circs_at, block_circs}
 use Rattle.matrices.proofs.Sizes.{data_blocks}
 use Rattle.matrices.proofs.Rows.{in_row}
@@ -29,12 +29,9 @@ filling code ks ws =
     let one = one_l (circulant_of code) in
     λ c. map (row_list (circulant_of code) (data_blocks code) c (generator_blocks code ws c) one) lones
 
-abbrev rows_complete : ℕ → Bool
+abbrev pub rows_complete : ℕ → Bool
 rows_complete code = rows_test code (filling code)
 
-complete_all : T (below tm_codes (λ c. rows_complete (tc_codes + c)))
+pub complete_all : T (below tm_codes (λ c. rows_complete (tc_codes + c)))
 unfolding rows tables prototypes thetas phis generators circs flat_map block_circs circs_at span blocks_of last_rows row_blocks cell_blocks block_of
 complete_all = tt
-
-pub rows_complete_lem : (code : ℕ) → TM code → T (rows_test code (filling code))
-rows_complete_lem = tm_at rows_complete complete_all

@@ -21,22 +21,17 @@ use Rattle.matrices.proofs.Distances.{distance_bits}
 use Rattle.low_weights.proofs.Distances.{words_apart}
 use Rattle.telemetry.specs.Completion.{Completes}
 use Rattle.telemetry.proofs.Clean.{completes_front}
-use Rattle.tm_distance.proofs.Weights.{least_sent}
+use Rattle.tm_distance.proofs.Sent.{sent_four}
 
 module _ (code : ℕ) (tm : TM code) where
-  -- two words that meet every equation and differ in a bit that is sent differ in four of these
-  pub sent_four : (w w' : ℕ → ℕ) → ((v : ℕ) → w v < 2) → ((v : ℕ) → w' v < 2) → Meets code w → Meets code w'
-      → 0 < sum_n (row_of code).n (unequal w w') → 4 ≤ sum_n (row_of code).n (unequal w w')
-  sent_four = words_apart code 4 tm.1 (least_sent code tm)
-
   -- the bytes of a word that are sent
-  abbrev front : List ℕ → List ℕ
+  abbrev pub front : List ℕ → List ℕ
   front = take ((row_of code).n / 8)
 
-  front_length : (s : List ℕ) → length s ≡ (row_of code).output_len → length (front s) ≡ (row_of code).n / 8
+  pub front_length : (s : List ℕ) → length s ≡ (row_of code).output_len → length (front s) ≡ (row_of code).n / 8
   front_length s long = let r = roomy code tm.1 in length-take-le ((row_of code).n / 8) s (omega (arith, r.sent, r.whole))
 
-  front_bit : (s : List ℕ) (v : ℕ) → v < (row_of code).n → bit_at (front s) v ≡ bit_at s v
+  pub front_bit : (s : List ℕ) (v : ℕ) → v < (row_of code).n → bit_at (front s) v ≡ bit_at s v
   front_bit s v h = bit_at_take ((row_of code).n / 8) s v (omega (arith, (roomy code tm.1).sent))
 
   pub strings_four : (s t : List ℕ) → length s ≡ (row_of code).output_len → Meets code (bit_at s) → Meets code (bit_at t)
@@ -45,7 +40,7 @@ module _ (code : ℕ) (tm : TM code) where
       let bits : distance (front s) (front t) ≡ sum_n (row_of code).n (unequal (bit_at s) (bit_at t)) =
       distance_bits code (front s) (front t) (front_length s long) tm.1
       ∙ sum_n_ext (row_of code).n _ _ (λ v h. rw (front_bit s v h, front_bit t v h)) in
-      rw bits (sent_four (bit_at s) (bit_at t) (bit_at_low s) (bit_at_low t) good good')
+      rw bits (sent_four code tm (bit_at s) (bit_at t) (bit_at_low s) (bit_at_low t) good good')
 
   -- a frame that has a completion
   module _ (frame full : List ℕ) (bytes : Bytes frame) (len : length frame ≡ (row_of code).n / 8) (c : Completes code frame full) where
@@ -54,24 +49,3 @@ module _ (code : ℕ) (tm : TM code) where
     frame_four word good =
         subst (λ (s : List ℕ). 0 < distance s (front word) → 4 ≤ distance s (front word)) (completes_front code tm frame full bytes len c)
         (strings_four full word c.long c.meets good)
-
-    -- one on a way of three bits over what was received begins with the frame, and completes it
-    module _ (received word : List ℕ) (as_long : length received ≡ (row_of code).n / 8) (near : distance frame received + distance received (front word) ≤ 3)
-        (long : length word ≡ (row_of code).output_len) (is_bytes : Bytes word) (good : Meets code (bit_at word)) where
-      near_front : front word ≡ frame
-      near_front =
-          let l = front_length word long in
-          sym (distance_zero frame (front word) (len ∙ sym l) bytes (bytes_take ((row_of code).n / 8) word l is_bytes) (go (dec_lt 0 (distance frame (front word)))))
-        where
-          go : Dec (0 < distance frame (front word)) → distance frame (front word) ≡ 0
-          go (yes h) = absurd (omega (arith, frame_four word good h, distance_over frame received (front word) (len ∙ sym as_long)))
-          go (no h) = omega arith
-
-      pub near_completes : Completes code frame word
-      near_completes =
-          record {
-            long = long;
-            bytes = is_bytes;
-            front = λ v h. sym (front_bit word v h) ∙ ap (λ (s : List ℕ). bit_at s v) near_front;
-            meets = good;
-          }

@@ -29,7 +29,7 @@ module _ (b nb tb r : ℕ) (ks : List Circ) where
   after k l = circ k.row l.col ((l.turn + k.turn) % b)
 
   -- what stands for a circulant: itself, or the rest of the row in which its column is the only punctured one
-  abbrev stands_for : Circ → List Circ
+  abbrev pub stands_for : Circ → List Circ
   stands_for k = pick (from_on nb tb k.col) (map (after k) (sent_in (r + (k.col - nb)))) (k ∷ [])
 
   -- the rows above those, without punctured columns
@@ -38,21 +38,21 @@ module _ (b nb tb r : ℕ) (ks : List Circ) where
 
 -- the sum over row a at offset t, of a word given by block and offset
 module _ (b : ℕ) (W : ℕ → ℕ → ℕ) (a t : ℕ) where
-  abbrev total : List Circ → ℕ
+  abbrev pub total : List Circ → ℕ
   total js = sum_row b (in_row js a) W t
 
   -- what one circulant adds
-  abbrev one : Circ → ℕ
+  abbrev pub one : Circ → ℕ
   one k = pick (eqb k.row a) (W k.col ((k.turn + t) % b)) 0
 
-  total_cons : (k : Circ) (js : List Circ) → total (k ∷ js) ≡ one k + total js
+  pub total_cons : (k : Circ) (js : List Circ) → total (k ∷ js) ≡ one k + total js
   total_cons k js = go (eqb k.row a)
     where
       go : (x : Bool) → sum_row b (pick x (k ∷ in_row js a) (in_row js a)) W t ≡ pick x (W k.col ((k.turn + t) % b)) 0 + total js
       go true = refl
       go false = sym (zero-add (total js))
 
-  total_append : (is js : List Circ) → total (is ++ js) ≡ total is + total js
+  pub total_append : (is js : List Circ) → total (is ++ js) ≡ total is + total js
   total_append [] js = sym (zero-add (total js))
   total_append (i ∷ is) js = omega (arith, total_cons i (is ++ js), total_append is js, total_cons i is)
 
@@ -101,7 +101,7 @@ module _ (b nb tb pb r mb : ℕ) (pos : 0 < b) (bits : tb ≡ nb + pb) (room : r
         go false = refl
 
     -- what stands for a circulant adds as much
-    stands_total : (k : Circ) → total b W a t (stands_for b nb tb r ks k) % 2 ≡ one b W a t k % 2
+    pub stands_total : (k : Circ) → total b W a t (stands_for b nb tb r ks k) % 2 ≡ one b W a t k % 2
     stands_total k = go (from_on nb tb k.col) refl
       where
         j : ℕ
@@ -124,29 +124,3 @@ module _ (b nb tb pb r mb : ℕ) (pos : 0 < b) (bits : tb ≡ nb + pb) (room : r
             let lone = subst (λ (q : ℕ). W q y % 2 ≡ sum_row b (sent_in b nb tb r ks (r + j)) W y % 2) i (lone_row j y (omega arith) (mod-lt (k.turn + t) pos)) in
             ap (λ (x : ℕ). x % 2) (after_total k (sent_in b nb tb r ks (r + j)))
             ∙ sym (alike (eqb k.row a) (W k.col y) (sum_row b (sent_in b nb tb r ks (r + j)) W y) lone)
-
-    reduced_total : (js : List Circ) → total b W a t (flat_map (stands_for b nb tb r ks) (keep (λ k. ltb k.row r) js)) % 2 ≡ total b W a t js % 2
-    reduced_total [] = ap (λ (js : List Circ). total b W a t js % 2) (flat_map_nil (stands_for b nb tb r ks))
-    reduced_total (k ∷ js) = go (ltb k.row r) refl (reduced_total js)
-      where
-        kept : List Circ
-        kept = keep (λ k. ltb k.row r) js
-
-        before : List Circ → List Circ
-        before = flat_map (stands_for b nb tb r ks)
-
-        off : (x : Bool) → eqb k.row a ≡ x → r ≤ k.row → pick x (W k.col ((k.turn + t) % b)) 0 ≡ 0
-        off true e l = absurd (omega (arith, eqb-true k.row a e))
-        off false e l = refl
-
-        go : (x : Bool) → ltb k.row r ≡ x → total b W a t (before kept) % 2 ≡ total b W a t js % 2
-            → total b W a t (before (pick x (k ∷ kept) kept)) % 2 ≡ total b W a t (k ∷ js) % 2
-        go true e ih =
-            let parts = ap (total b W a t) (flat_map_cons (stands_for b nb tb r ks) k kept) ∙ total_append b W a t (stands_for b nb tb r ks k) (before kept) in
-            ap (λ (x : ℕ). x % 2) parts ∙ add-mod _ _ 2 ∙ ap₂ (λ (x y : ℕ). (x + y) % 2) (stands_total k) ih
-            ∙ sym (add-mod (one b W a t k) (total b W a t js) 2) ∙ ap (λ (x : ℕ). x % 2) (sym (total_cons b W a t k js))
-        go false e ih = omega (arith, total_cons b W a t k js, off (eqb k.row a) refl (ltb-false k.row r e))
-
-  -- a word that meets the rows of a matrix meets those of the reduced one
-  pub reduced_even : EvenRows b r (reduced b nb tb r ks) w
-  reduced_even a t ha ht = reduced_total a t ha ht ks ∙ even a t (omega arith) ht

@@ -6,10 +6,10 @@ use lib.Dec.{T}
 use Rattle.maths.specs.Tests.{below}
 use Rattle.maths.specs.Lists.{span}
 use Rattle.tables.specs.Tables.{prototypes, thetas, phis}
-use Rattle.codes.specs.Codes.{tc_codes, TM, rows, tables, circulant_of}
+use Rattle.codes.specs.Codes.{tc_codes, rows, tables, circulant_of}
 use Rattle.codes.specs.Blocks.{block_of, cell_blocks, row_blocks, last_rows}
 use Rattle.codes.specs.Edges.{blocks_of}
-use Rattle.codes.proofs.Codes.{tm_codes, tm_at}
+use Rattle.codes.proofs.Codes.{tm_codes}
 use Rattle.matrices.specs.Circulants.{Circ, circs, circs_at, block_circs}
 use Rattle.matrices.proofs.Sizes.{bit_blocks}
 use Rattle.low_weights.proofs.FewOnes.{none_in}
@@ -23,9 +23,6 @@ reduced_of code = let ks = circs code in reduced (circulant_of code) (sent_block
 abbrev pub none_sent : ℕ → Bool
 none_sent code = let js = reduced_of code in none_in (circulant_of code) (third_block code) (sent_blocks code) js 8 2
 
-none_hold : T (below tm_codes (λ c. none_sent (tc_codes + c)))
+pub none_hold : T (below tm_codes (λ c. none_sent (tc_codes + c)))
 unfolding rows tables prototypes thetas phis circs flat_map block_circs circs_at span blocks_of last_rows row_blocks cell_blocks block_of
 none_hold = tt
-
-pub none_sent_lem : (code : ℕ) → TM code → T (none_sent code)
-none_sent_lem = tm_at none_sent none_hold

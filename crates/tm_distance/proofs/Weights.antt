@@ -1,18 +1,24 @@
 -- The least weight of the TM codes, among the bits that are sent. Assumes nothing.
 use mathlib.Core.Path.{ap}
+use lib.Dec.{T}
 use Prim.Native.Nat.{ℕ, ◌+◌, ◌*◌, ◌≤◌}
 use native.Mathlib.Nat.{add-mul, le_of_mul-le-mul_right}
 use native.Mathlib.Omega.{arith}
 use Rattle.codes.specs.Codes.{TM, circulant_of}
+use Rattle.codes.proofs.Codes.{tm_at}
 use Rattle.matrices.specs.Circulants.{circs}
 use Rattle.matrices.proofs.Sizes.{check_blocks, bit_blocks, sizes}
 use Rattle.low_weights.specs.Weights.{LeastWeight}
 use Rattle.low_weights.proofs.Weights.{even_rows}
-use Rattle.low_weights.proofs.FewOnes.{heavy}
+use Rattle.low_weights.proofs.Heavy.{heavy}
 use Rattle.telemetry.proofs.Sizes.{sent_blocks, punctured_blocks, third_block, cut}
 use Rattle.telemetry.proofs.Alone.{all_alone_lem}
-use Rattle.tm_distance.proofs.Reduced.{reduced_even}
-use Rattle.tm_distance.proofs.Tests.{reduced_of, none_sent_lem}
+use Rattle.tm_distance.proofs.ReducedRows.{reduced_even}
+use Rattle.tm_distance.proofs.Tests.{reduced_of, none_sent, none_hold}
+
+-- what the computed search says of one code
+pub none_sent_lem : (code : ℕ) → TM code → T (none_sent code)
+none_sent_lem = tm_at none_sent none_hold
 
 -- no word that meets every equation of a TM code has one to three ones among the bits that are sent
 pub least_sent : (code : ℕ) → TM code → LeastWeight code 4

@@ -100,6 +100,3 @@ module _ (es : List Edge) (m n : ℕ) (ranged : Ranged m n es) (w : List ℕ) (g
           → follow (pick x (stop (plus w e)) (go (plus w (flipped es e)))) j (run (turn es m) b (suc j)) ≡ end_plus w (follow (pick x (stop e) (go (flipped es e))) j (run (turn es m) b (suc j)))
       by true next = refl
       by false next = next
-
-  pub passes_plus : Bits w → (limit : ℕ) (e : List ℕ) → length e ≡ length w → Bits e → passes es m limit (plus w e) ≡ end_plus w (passes es m limit e)
-  passes_plus w_bits limit e long bits = run_plus w_bits limit 0 e long bits

@@ -38,8 +38,10 @@ use Rattle.bit_flip.proofs.Scores.{span_bits}
 use Rattle.bit_flip.proofs.Theorems.{passes_length, answer_of, received_word, ended, outcome_is, output_word}
 use Rattle.two_flips.specs.Words.{plus}
 use Rattle.two_flips.specs.Flips.{PairFlips}
-use Rattle.two_flips.proofs.Added.{plus_at, plus_is, end_plus, passes_plus}
-use Rattle.two_flips.proofs.Theorems.{one_flip, one_flip_late, two_flips}
+use Rattle.two_flips.proofs.Added.{plus_at, plus_is, end_plus}
+use Rattle.two_flips.proofs.AddedPasses.{passes_plus}
+use Rattle.two_flips.proofs.OneFlip.{one_flip}
+use Rattle.two_flips.proofs.Theorems.{one_flip_late, two_flips}
 
 -- an accepted call that ends after k passes and leaves s
 abbrev pub leaves : ℕ → Bool → ℕ → List ℕ → Outcome

@@ -1,5 +1,6 @@
 pub mod Scores
 pub mod Added
+pub mod AddedPasses
 pub mod Mends
 pub mod Pairs
 pub mod Turning
@@ -8,4 +9,5 @@ pub mod Circles
 pub mod Tests
 pub mod Blocks
 pub mod Theorems
+pub mod OneFlip
 pub mod Frames

@@ -28,7 +28,8 @@ use Rattle.bit_flip.proofs.Scores.{sum_ranged, span_bits}
 use Rattle.two_flips.specs.Words.{plus}
 use Rattle.two_flips.specs.Clear.{Clear}
 use Rattle.two_flips.proofs.Scores.{score_at, Leads, clear_leads}
-use Rattle.two_flips.proofs.Added.{plus_is, passes_plus}
+use Rattle.two_flips.proofs.Added.{plus_is}
+use Rattle.two_flips.proofs.AddedPasses.{passes_plus}
 
 -- ---- errors, and how they go away in k flips: each flips the bits of n with the largest score
 pub data Mends (es : List Edge) (n : ℕ) : ℕ → (ℕ → ℕ) → Type 0 where

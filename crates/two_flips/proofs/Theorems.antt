@@ -1,7 +1,6 @@
 -- One or two flipped bits of a TC word are put right. Assumes nothing.
 --     one_right       a clear bit, over any edges: at pass 1
 --     all_clear       every bit of a TC code is clear
---     one_flip        any bit of a TC code: at pass 1
 --     two_flips       any two bits of a TC code: at pass 1, 2 or 3
 use mathlib.Core.Bool.{true, false}
 use mathlib.Core.Logic.{◌≢◌, ◌⊎◌}
@@ -86,11 +85,7 @@ module _ (code : ℕ) (tc : TC code) where
       (λ b mb nb pos ks r o t. pairs_mend b mb nb pos ks r o t x y)
 
   module _ (w : List ℕ) (bits : Bits w) (long : length w ≡ bits_in code) (good : Meets code (word_of w)) where
-    -- one flipped bit
-    pub one_flip : (x : ℕ) → x < bits_in code → (limit : ℕ) → 2 ≤ limit
-        → passes (edges code) (checks_in code) limit (plus w (one_at (bits_in code) x)) ≡ end true 1 w
-    one_flip x hx = one_right (edges code) (checks_in code) (bits_in code) (edges_ranged code known) w bits long good x hx (all_clear x hx)
-
+    -- one flipped bit, with a limit of 1
     pub one_flip_late : (x : ℕ) → x < bits_in code → passes (edges code) (checks_in code) 1 (plus w (one_at (bits_in code) x)) ≡ end false 1 w
     one_flip_late x hx = one_untested (edges code) (checks_in code) (bits_in code) (edges_ranged code known) w bits long good x hx (all_clear x hx)
 
