@@ -55,7 +55,7 @@ module _ {B : Type 0} where
   abbrev pub works_once : Decoder B → Decoder B
   works_once d code b limit = told (d code b limit).report (d code b (min limit 1)).output
 
-  -- "A made_up iteration number": any decoder, with another number
+  -- "A made-up iteration number": any decoder, with another number
   abbrev pub renumbered : (ℕ → B → ℕ → ℕ) → Decoder B → Decoder B
   renumbered number d code b limit =
       let x = d code b limit in
@@ -91,7 +91,7 @@ pub record NoIdleDecoder {B : Type 0} (calls : Receiving B) (plain : B → Type 
   pub copying_output : (says : Reports B) → DecodesAs calls (copies calls says) → ⊥
   -- "All the work in pass 0, later passes for show: demand 2 fixes the output for each limit."
   pub working_once : (d : Decoder B) → DecodesAs calls (works_once d) → ⊥
-  -- "A made_up iteration number: it must be the pass at which the equations first hold": decoders that count their passes say the same, so
+  -- "A made-up iteration number: it must be the pass at which the equations first hold": decoders that count their passes say the same, so
   -- none has a number of its own, or tests only every second pass
   pub made_up : (d e : Decoder B) → CountsPasses calls d → CountsPasses calls e → (code : ℕ) (b : B) (limit : ℕ) → calls.answer code b limit ≡ 0
       → ((d code b limit).report.success ≡ (e code b limit).report.success) × ((d code b limit).report.iters ≡ (e code b limit).report.iters)
@@ -107,7 +107,7 @@ pub record NoIdleCorrector {B : Type 0} (calls : Receiving B) (plain : B → Typ
   -- copying, and doing nothing, whatever they say
   pub copying : (says : Reports B) → FewFlipsReturn calls plain 1 (copies calls says) → ⊥
   pub resting : (says : Reports B) → FewFlipsReturn calls plain 1 (rests calls says) → ⊥
-  -- a made_up number: with one bit flipped it is 1, so no one number will do
+  -- a made-up number: with one bit flipped it is 1, so no one number will do
   pub made_up : (number : ℕ → B → ℕ → ℕ) (d : Decoder B) → FewFlipsReturn calls plain 1 (renumbered number d) → (code : ℕ) (b : B) (limit : ℕ) (frame : List ℕ)
       → TC code → Sent code frame → calls.answer code b limit ≡ 0 → plain b → distance frame (calls.word b) ≡ 1 → 2 ≤ limit → number code b limit ≡ 1
   pub one_number : (n : ℕ) (d : Decoder B) → FewFlipsReturn calls plain 1 (renumbered (λ code b limit. n) d) → ⊥
@@ -120,7 +120,7 @@ pub record NoIdleCompleter {B : Type 0} (calls : Receiving B) : Type 0 where
   -- doing nothing, and copying, whatever they say: a refusal is among what they may say
   pub resting : (says : Reports B) → FrameCompletes calls (rests calls says) → ⊥
   pub copying : (says : Reports B) → FrameCompletes calls (copies calls says) → ⊥
-  -- a made_up number: it is 0
+  -- a made-up number: it is 0
   pub made_up : (number : ℕ → B → ℕ → ℕ) (d : Decoder B) → FrameCompletes calls (renumbered number d) → (code : ℕ) (b : B) (limit : ℕ)
       → TM code → Sent code (calls.word b) → calls.answer code b limit ≡ 0 → 1 ≤ limit → number code b limit ≡ 0
 

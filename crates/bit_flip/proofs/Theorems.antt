@@ -1,7 +1,7 @@
 -- What holds of every outcome of bit flipping. Assumes nothing.
---     success-meets     a success meets every parity equation
+--     success_meets     a success meets every parity equation
 --     clean             a TC word that meets the equations is returned as it is, at pass 0
---     limit-none        without an iteration the output is the input followed by zeros
+--     limit_none        without an iteration the output is the input followed by zeros
 use mathlib.Core.Bool.{Bool, true, false}
 use mathlib.Core.List.{List, ◌++◌}
 use mathlib.Core.Path.{◌≡◌, refl, sym, subst, ◌∙◌, fun_ext}

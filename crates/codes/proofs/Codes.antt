@@ -43,7 +43,7 @@ bounded code =
       messages = row_most (λ r. 2 * r.paritycheck_sum + (r.n + r.punctured_bits) + (r.n + r.punctured_bits - r.k)) max_soft_working tt tt code;
       output = row_most (λ r. r.output_len) max_bytes tt tt code;
       flip_working = row_most (λ r. r.decode_bf_working_len) max_bits tt tt code;
-      soft_working_lem = row_most (λ r. r.decode_ms_working_len) max_soft_working tt tt code;
+      soft_working = row_most (λ r. r.decode_ms_working_len) max_soft_working tt tt code;
       signs = row_most (λ r. r.decode_ms_working_u8_len) max_signs tt tt code;
     }
 
@@ -64,7 +64,7 @@ roomy code h =
       whole = below_eq codes (λ c. 8 * (row_of c).output_len) bits_in tt code h;
       signs = below_eq codes (λ c. 8 * (row_of c).decode_ms_working_u8_len) checks_in tt code h;
       working = below_eq codes (λ c. (row_of c).decode_bf_working_len) bits_in tt code h;
-      soft_working_lem = below_eq codes (λ c. (row_of c).decode_ms_working_len) (λ c. 2 * (row_of c).paritycheck_sum + bits_in c + 2 * checks_in c) tt code h;
+      soft_working = below_eq codes (λ c. (row_of c).decode_ms_working_len) (λ c. 2 * (row_of c).paritycheck_sum + bits_in c + 2 * checks_in c) tt code h;
       circulant = most (λ c. 8) circulant_of tt code h;
       circulant_bytes = below_eq codes (λ c. circulant_of c / 8 * 8) circulant_of tt code h;
       block_circulants = below_eq codes (λ c. (row_of c).submatrix_size / circulant_of c * circulant_of c) (λ c. (row_of c).submatrix_size) tt code h;

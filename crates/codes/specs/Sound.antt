@@ -29,7 +29,7 @@ pub record Bounded (r : CodeParams) : Type 0 where
   pub messages : 2 * r.paritycheck_sum + (r.n + r.punctured_bits) + (r.n + r.punctured_bits - r.k) ≤ max_soft_working
   pub output : r.output_len ≤ max_bytes
   pub flip_working : r.decode_bf_working_len ≤ max_bits
-  pub soft_working_lem : r.decode_ms_working_len ≤ max_soft_working
+  pub soft_working : r.decode_ms_working_len ≤ max_soft_working
   pub signs : r.decode_ms_working_u8_len ≤ max_signs
 
 -- what holds of every known row: its bytes are whole, the working buffers have a number for each bit, or two for each edge, one for each bit
@@ -45,7 +45,7 @@ pub record Roomy (r : CodeParams) : Type 0 where
   pub whole : 8 * r.output_len ≡ r.n + r.punctured_bits
   pub signs : 8 * r.decode_ms_working_u8_len ≡ r.n + r.punctured_bits - r.k
   pub working : r.decode_bf_working_len ≡ r.n + r.punctured_bits
-  pub soft_working_lem : r.decode_ms_working_len ≡ 2 * r.paritycheck_sum + (r.n + r.punctured_bits) + 2 * (r.n + r.punctured_bits - r.k)
+  pub soft_working : r.decode_ms_working_len ≡ 2 * r.paritycheck_sum + (r.n + r.punctured_bits) + 2 * (r.n + r.punctured_bits - r.k)
   pub circulant : 8 ≤ r.circulant_size
   pub circulant_bytes : r.circulant_size / 8 * 8 ≡ r.circulant_size
   pub block_circulants : r.submatrix_size / r.circulant_size * r.circulant_size ≡ r.submatrix_size

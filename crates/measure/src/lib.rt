@@ -1,4 +1,4 @@
-// Doors for measuring: the walk edge by edge, and the list of runs, which the library's own interface does not show.
+// For measuring: the walk edge by edge, and the list of runs, which the library's own interface does not show. measure_c exports both.
 
 #![tactic(auto)]
 
@@ -17,8 +17,7 @@ fn folded(sum: usize, check: usize, bit: usize) -> usize
 }
 
 // The sum of the numbers of all edges of a code, by stepping the walk.
-#[unsafe(no_mangle)]
-pub extern "C" fn measure_walk(code: usize) -> usize
+pub fn measure_walk(code: usize) -> usize
     ensures { result ≡ sum_of code }
 {
     let mut walk = iter_paritychecks(code).walk;
@@ -35,8 +34,7 @@ pub extern "C" fn measure_walk(code: usize) -> usize
 }
 
 // How many runs a code has, by filling their list.
-#[unsafe(no_mangle)]
-pub extern "C" fn measure_runs(code: usize) -> usize
+pub fn measure_runs(code: usize) -> usize
     ensures { result ≡ length (runs code) }
 {
     runs_of(code).count

@@ -1,5 +1,5 @@
 -- The runs of a code, laid out edge by edge, are its edges, and they lie within its checks and bits. Assumes nothing.
---     runs-flat     flat_map run_edges (runs code) ≡ edges code
+--     runs_flat     flat_map run_edges (runs code) ≡ edges code
 use Rattle.std.proofs.Common.{◌≡◌, ℕ, zero, suc, ◌+◌, ◌-◌, ◌*◌, ◌/◌, ◌%◌, ◌<◌, ◌≤◌, Bool, T, ltb, leb, List, [], ◌∷◌, ◌++◌, get_or, sym, ap, ◌∙◌, subst, ap₂, append-nil, add-zero, mod-lt, mod-eq_of_lt, suc-mul, mul_comm, add_comm, zero-add, arith, lt→ltb, leb→le, le-ltb, eq-eqb, ne_eqb}
 use mathlib.Core.List.{flat_map}
 use native.Mathlib.Nat.{mod-add-mod, mul-add-div_right, div-eq_of_lt, add-mul-mod_self_right, add-mod_left}

@@ -1,6 +1,6 @@
 -- Bytes: a TC frame that arrives with one bit flipped, each bit with a confidence of one size, is returned by min-sum. Assumes nothing.
---     one-put-right    with success at iteration 1; one-seen-late with a limit of 1
---     llrs-one-size    what `hard_to_llrs` makes is of one size
+--     one_put_right    with success at iteration 1; one_seen_late with a limit of 1
+--     llrs_one_size    what `hard_to_llrs` makes is of one size
 use mathlib.Core.Bool.{Bool, true, false}
 use mathlib.Core.List.{List}
 use mathlib.Core.Path.{◌≡◌, refl, sym, ap, ◌∙◌, fun_ext}

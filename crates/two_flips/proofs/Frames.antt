@@ -1,7 +1,7 @@
 -- Bytes: a TC frame that arrives with one or two bits flipped is returned by bit flipping. Assumes nothing.
---     errors-alone     with any bits flipped it is answered as these bits alone, with the frame added
---     one-put-right    one bit: with success at iteration 1; one-seen-late with a limit of 1
---     two-put-right    two bits: with success at iteration 1, 2 or 3
+--     errors_alone     with any bits flipped it is answered as these bits alone, with the frame added
+--     one_put_right    one bit: with success at iteration 1; one_seen_late with a limit of 1
+--     two_put_right    two bits: with success at iteration 1, 2 or 3
 use mathlib.Core.Bool.{Bool, true, false}
 use mathlib.Core.Logic.{◌≢◌}
 use mathlib.Core.List.{List, [], ◌∷◌}

@@ -1,8 +1,8 @@
 -- One or two flipped bits of a TC word are put right. Assumes nothing.
 --     one_right       a clear bit, over any edges: at pass 1
---     all-clear       every bit of a TC code is clear
---     one-flip        any bit of a TC code: at pass 1
---     two-flips       any two bits of a TC code: at pass 1, 2 or 3
+--     all_clear       every bit of a TC code is clear
+--     one_flip        any bit of a TC code: at pass 1
+--     two_flips       any two bits of a TC code: at pass 1, 2 or 3
 use mathlib.Core.Bool.{true, false}
 use mathlib.Core.Logic.{◌≢◌, ◌⊎◌}
 use mathlib.Core.List.{List}
