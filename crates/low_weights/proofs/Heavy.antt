@@ -1,5 +1,4 @@
 -- A word with even checks and a one has more than a few. Assumes nothing.
-use mathlib.Core.Bool.{Bool}
 use mathlib.Core.Logic.{◌≢◌}
 use mathlib.Core.Path.{◌≡◌, sym, ap, ◌∙◌, subst}
 use mathlib.Core.List.{List, []}
@@ -11,14 +10,13 @@ use lib.Dec.{T, leb, leb→le}
 use lib.Arith.{digits_lt}
 use lib.ListN.{get_or}
 use borrow.Author.Tests.{le-leb}
-use Rattle.maths.specs.Tests.{both, all, below}
+use Rattle.maths.specs.Tests.{all}
 use Rattle.maths.specs.Sums.{sum_n}
 use Rattle.maths.proofs.Tests.{both_left, both_right, below_at, all_anywhere, true_T}
 use Rattle.matrices.specs.Circulants.{Circ}
 use Rattle.low_weights.proofs.Rows.{excess, excess_map}
-use Rattle.low_weights.proofs.Search.{none_beside}
 use Rattle.low_weights.proofs.Light.{none_light}
-use Rattle.low_weights.proofs.Lines.{check_to, bits_on, rows_of, row_bits, row_bits_lem, checks_on, columns_of, inside, dual, bits_low, bits_even}
+use Rattle.low_weights.proofs.Lines.{check_to, bits_on, rows_of, row_bits, row_bits_lem, checks_on, columns_of, dual, bits_low, bits_even}
 use Rattle.low_weights.proofs.Turned.{EvenRows, rot, turned_word, rot_low, turned_at, turned_even, turned_sum, first_one}
 use Rattle.low_weights.proofs.FewOnes.{none_from, none_in, ranged, tested}
 

@@ -12,7 +12,7 @@ use lib.ListN.{length, get_or}
 use borrow.Author.Tests.{eqb-true}
 use Rattle.maths.specs.Tests.{pick, all}
 use Rattle.maths.specs.Search.{either}
-use Rattle.maths.specs.Sums.{sum_l, sum_n, Even}
+use Rattle.maths.specs.Sums.{sum_l, sum_n}
 use Rattle.maths.specs.Ones.{delta}
 use Rattle.maths.proofs.Tests.{both_left, both_right}
 use Rattle.maths.proofs.Search.{either_cases}
@@ -20,7 +20,7 @@ use Rattle.maths.proofs.Sums.{sum_l_add, sum_l_mul, sum_l_sum_n, sum_n_ext, sum_
 use Rattle.maths.proofs.Ones.{delta_swap, sum_counts, sum_delta}
 use Rattle.low_weights.proofs.Occurs.{occurs, Once, toggles_occurs, length_below, occurs_within}
 use Rattle.low_weights.proofs.Rows.{toggle_rows, toggle_rows_at, first, first_found, excess, excess_below}
-use Rattle.low_weights.proofs.Search.{member, shut, branch, none, none_beside}
+use Rattle.low_weights.proofs.Search.{member, shut, branch, none}
 
 -- an odd sum of bits has a one among its places
 odd_place : (n : ℕ) (g : ℕ → Bool) (w : ℕ → ℕ) → ((v : ℕ) → w v < 2) → (vs : List ℕ) → T (all g vs) → T (all (λ v. ltb v n) vs)

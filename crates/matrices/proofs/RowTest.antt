@@ -7,9 +7,9 @@ use mathlib.Core.Path.{◌≡◌, refl, sym, ap, ap₂, ◌∙◌, subst}
 use Prim.Native.Nat.{ℕ, zero, suc, ◌+◌, ◌-◌, ◌*◌, ◌/◌, ◌%◌, ◌<◌}
 use native.Mathlib.Nat.{zero-add, zero-mul, mod-lt, mod-add-mod, div-add-mod', div-lt_iff_lt-mul}
 use native.Mathlib.Omega.{arith}
-use borrow.Author.Tests.{ne_eqb, ltb-false}
+use borrow.Author.Tests.{ne_eqb}
 use lib.Dec.{T, eqb, ltb, eqb→eq}
-use lib.Arith.{digits_div, digits_mod, digits_lt}
+use lib.Arith.{digits_div, digits_mod}
 use lib.ListN.{length, get_or, drop, replicate, length-replicate, get_or-append}
 use lib.Seq.{get_or-drop}
 use Rattle.maths.specs.Tests.{pick, both, all, below}
@@ -24,11 +24,10 @@ use Rattle.codes.specs.Codes.{Known, row_of, generator_of, circulant_of}
 use Rattle.codes.specs.Equations.{Hold, Meets}
 use Rattle.matrices.specs.Circulants.{Circ, circs}
 use Rattle.codes.specs.Frames.{generator_bit, generator}
-use Rattle.matrices.specs.Generators.{w_entry, systematic, g_entry}
+use Rattle.matrices.specs.Generators.{systematic}
 use Rattle.matrices.proofs.Sizes.{data_blocks, check_blocks, parity_blocks, sizes}
 use Rattle.matrices.proofs.Circulants.{of_edges}
 use Rattle.matrices.proofs.Rows.{in_row, sum_row}
-use Rattle.matrices.proofs.Generators.{adds_entry}
 use Rattle.matrices.proofs.Turning.{based, row_meets}
 
 -- a block of which the first bit is 1

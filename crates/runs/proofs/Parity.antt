@@ -12,7 +12,7 @@ use Rattle.runs.specs.declared.Runs.{Runs}
 use Rattle.codes.specs.declared.CodeParams.{CodeParams}
 use Rattle.codes.specs.declared.ParamsAnswer.{ParamsAnswer}
 use Rattle.codes.specs.Answers.{test, first_of, or_test, unlike}
-use Rattle.codes.specs.Codes.{Known, known, row_of, params_of, bits_in, checks_in, max_bits, max_checks}
+use Rattle.codes.specs.Codes.{Known, row_of, params_of, bits_in, checks_in, max_bits, max_checks}
 use Rattle.codes.specs.Edges.{Edge, in_range, edges}
 use Rattle.runs.specs.Runs.{run_edges, runs, numbers, runs_of, read_runs, within, laid}
 use Rattle.codes.specs.Equations.{par, Hold, Meets, word_of}

@@ -8,7 +8,7 @@ use Rattle.maths.specs.Tests.{below}
 use Rattle.maths.specs.Lists.{span}
 use Rattle.tables.specs.Tables.{prototypes, thetas, phis}
 use Rattle.tables.specs.Words.{generators}
-use Rattle.codes.specs.Codes.{tc_codes, TM, rows, tables, circulant_of}
+use Rattle.codes.specs.Codes.{tc_codes, rows, tables, circulant_of}
 use Rattle.codes.specs.Blocks.{block_of, cell_blocks, row_blocks, last_rows}
 use Rattle.codes.specs.Edges.{blocks_of}
 use Rattle.codes.proofs.Codes.{tm_codes}

@@ -1,16 +1,15 @@
 -- A matrix of circulants without its punctured columns: each is replaced by the rest of the row in which it is the only one. Assumes nothing.
 use mathlib.Core.Bool.{Bool, true, false, not}
 use mathlib.Core.List.{List, [], ◌∷◌, ◌++◌, map, flat_map}
-use mathlib.Core.Path.{◌≡◌, refl, sym, ap, ap₂, ◌∙◌, subst}
+use mathlib.Core.Path.{◌≡◌, refl, sym, ap, ◌∙◌, subst}
 use Prim.Native.Nat.{ℕ, ◌+◌, ◌-◌, ◌*◌, ◌%◌, ◌≤◌, ◌<◌}
-use native.Mathlib.Nat.{zero-add, add-mod, mod-lt, mod-eq_of_lt}
+use native.Mathlib.Nat.{zero-add, mod-lt, mod-eq_of_lt}
 use native.Mathlib.Omega.{arith}
 use lib.Dec.{T, eqb, ltb, leb}
-use borrow.Author.Tests.{ltb-true, ltb-false, leb-true, eqb-true}
+use borrow.Author.Tests.{ltb-true, leb-true}
 use Rattle.maths.specs.Tests.{pick}
 use Rattle.maths.specs.Lists.{keep}
 use Rattle.maths.proofs.Tests.{both_first, both_second, pick_same}
-use Rattle.maths.proofs.Lists.{flat_map_cons, flat_map_nil}
 use Rattle.maths.proofs.Turns.{turn_term}
 use Rattle.matrices.specs.Circulants.{Circ, circ}
 use Rattle.matrices.proofs.Rows.{in_row, sum_row}

@@ -1,22 +1,18 @@
 -- A word that meets the rows of a matrix meets those of the reduced one. Assumes nothing.
-use mathlib.Core.Bool.{Bool, true, false, not}
-use mathlib.Core.List.{List, [], ◌∷◌, ◌++◌, map, flat_map}
-use mathlib.Core.Path.{◌≡◌, refl, sym, ap, ap₂, ◌∙◌, subst}
-use Prim.Native.Nat.{ℕ, ◌+◌, ◌-◌, ◌*◌, ◌%◌, ◌≤◌, ◌<◌}
-use native.Mathlib.Nat.{zero-add, add-mod, mod-lt, mod-eq_of_lt}
+use mathlib.Core.Bool.{Bool, true, false}
+use mathlib.Core.List.{List, [], ◌∷◌, flat_map}
+use mathlib.Core.Path.{◌≡◌, refl, sym, ap, ap₂, ◌∙◌}
+use Prim.Native.Nat.{ℕ, ◌+◌, ◌*◌, ◌%◌, ◌≤◌, ◌<◌}
+use native.Mathlib.Nat.{add-mod}
 use native.Mathlib.Omega.{arith}
-use lib.Dec.{T, eqb, ltb, leb}
-use borrow.Author.Tests.{ltb-true, ltb-false, leb-true, eqb-true}
+use lib.Dec.{T, eqb, ltb}
+use borrow.Author.Tests.{ltb-false, eqb-true}
 use Rattle.maths.specs.Tests.{pick}
 use Rattle.maths.specs.Lists.{keep}
-use Rattle.maths.proofs.Tests.{both_first, both_second, pick_same}
 use Rattle.maths.proofs.Lists.{flat_map_cons, flat_map_nil}
-use Rattle.maths.proofs.Turns.{turn_term}
-use Rattle.matrices.specs.Circulants.{Circ, circ}
-use Rattle.matrices.proofs.Rows.{in_row, sum_row}
+use Rattle.matrices.specs.Circulants.{Circ}
 use Rattle.low_weights.proofs.Turned.{EvenRows}
-use Rattle.bit_flip.specs.Erasures.{from_on}
-use Rattle.telemetry.proofs.Punctured.{alone_test, punct_is}
+use Rattle.telemetry.proofs.Punctured.{alone_test}
 use Rattle.tm_distance.proofs.Reduced.{stands_for, reduced, total, one, total_cons, total_append, stands_total}
 
 module _ (b nb tb pb r mb : ℕ) (pos : 0 < b) (bits : tb ≡ nb + pb) (room : r + pb ≤ mb) (ks : List Circ) (test : T (alone_test nb tb pb r ks))

@@ -19,7 +19,7 @@ use Rattle.codes.specs.Edges.{Edge}
 use Rattle.codes.specs.Equations.{bits_of, word_of, Hold}
 use Rattle.runs.specs.Meets.{holds}
 use Rattle.matrices.proofs.Edges.{Ranged}
-use Rattle.bit_flip.specs.Flip.{broken, score, top_score, flipped, turn, passes}
+use Rattle.bit_flip.specs.Flip.{broken, score, top_score, flipped, turn}
 use Rattle.bit_flip.specs.Steps.{Bits}
 use Rattle.bit_flip.proofs.Scores.{sum_ranged, flipped_length, flipped_bits}
 use Rattle.two_flips.specs.Words.{plus}

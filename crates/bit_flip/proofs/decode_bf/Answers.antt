@@ -1,7 +1,3 @@
-use mathlib.Core.Path.{◌≡◌}
-use lib.ListN.{length}
-use Rattle.codes.specs.Answers.{first_of}
-use Rattle.bit_flip.specs.Outcome.{tests}
 use Rattle.bit_flip.proofs.Calls.{answer_is, calling}
 use Rattle.bit_flip.proofs.decode_bf.Goals as goal
 

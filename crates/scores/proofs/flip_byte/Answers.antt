@@ -1,4 +1,4 @@
-use Rattle.std.proofs.Common.{rules, eq-eqb, ne_eqb}
+use Rattle.std.proofs.Common.{eq-eqb, ne_eqb}
 use Rattle.scores.specs.Scores.{flip_byte}
 use Rattle.scores.proofs.flip_byte.Goals as goal
 

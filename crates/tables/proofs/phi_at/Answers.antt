@@ -1,4 +1,3 @@
-use borrow.Author.Rules.{rules}
 use Rattle.tables.specs.Tables.{phis}
 use Rattle.tables.proofs.phi_at.Goals as goal
 

@@ -1,4 +1,3 @@
-use borrow.Author.Rules.{rules}
 use Rattle.tables.specs.Tables.{prototypes}
 use Rattle.tables.proofs.prototype_at.Goals as goal
 

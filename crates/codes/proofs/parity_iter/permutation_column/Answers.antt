@@ -1,6 +1,5 @@
 use Prim.Native.Nat.{◌+◌, ◌/◌}
 use native.Mathlib.Omega.{arith}
-use borrow.Author.Rules.{rules}
 use Rattle.codes.proofs.Columns.{quarter_below, permutation_inside}
 use Rattle.codes.proofs.parity_iter.permutation_column.Goals as goal
 

@@ -1,6 +1,6 @@
 use Rattle.min_sum.specs.MinSum.{hard_bits}
 use Rattle.min_sum.specs.Confidence.{i8}
-use Rattle.min_sum.proofs.HardBits.{packs, halves}
+use Rattle.min_sum.proofs.HardBits.{halves}
 use Rattle.confidence_i8.proofs.llrs.hard_byte.Goals as goal
 
 pub returns : goal.returns

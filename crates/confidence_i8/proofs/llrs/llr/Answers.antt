@@ -1,5 +1,4 @@
 use borrow.Author.Tests.{eq-eqb, ne_eqb}
-use borrow.Author.Rules.{rules}
 use Rattle.confidence_i8.proofs.llrs.llr.Goals as goal
 
 pub returns-then-input-at-eq1 : goal.returns-then-input-at-eq1

@@ -1,11 +1,5 @@
-use mathlib.Core.Path.{◌≡◌}
-use Prim.Native.Nat.{◌-◌, ◌/◌, ◌%◌, ◌≤◌}
 use native.Mathlib.Omega.{arith}
-use lib.Dec.{eqb}
-use lib.ListN.{length, get_or}
-use Rattle.maths.specs.Tests.{below}
 use Rattle.min_sum.proofs.Parity.{even_none, even_more, even_all}
-use borrow.Author.Rules.{rules}
 use Rattle.min_sum.proofs.marks.all_even.Goals as goal
 
 pub loop-i-init : goal.loop-i-init

@@ -1,5 +1,4 @@
 use Rattle.min_sum.proofs.Held.{marked}
-use borrow.Author.Rules.{rules}
 use Rattle.min_sum.proofs.marks.mark.Goals as goal
 
 pub returns : goal.returns
