@@ -1,14 +1,14 @@
 -- From the list of a call's tests to its answer, and from the answer to what the call knows and leaves. Assumes nothing.
 use mathlib.Core.Bool.{Bool, true, false, not}
-use mathlib.Core.List.{List, [], ◌∷◌}
+use mathlib.Core.List.{List, [], ◌∷◌, ◌++◌}
 use mathlib.Core.Path.{◌≡◌, refl}
 use Prim.Native.Nat.{ℕ, zero, suc}
 use native.Mathlib.Omega.{arith}
-use borrow.Author.Tests.{ltb-true, eqb-true, ne_eqb, not-false}
+use borrow.Author.Tests.{ltb-true, ltb-false, eqb-true, ne_eqb, not-false}
 use lib.Dec.{T, eqb, ltb}
 use Rattle.maths.specs.Tests.{pick, all}
 use Rattle.maths.proofs.Tests.{both_left, both_right}
-use Rattle.codes.specs.Answers.{Test, first_of, or_test, unlike}
+use Rattle.codes.specs.Answers.{Test, first_of, or_test, unlike, max_iters, Allowed, too_many}
 use Rattle.codes.specs.Codes.{codes, Known, known}
 
 -- tests that are run one after another upon an answer, and from the first on
@@ -51,6 +51,18 @@ unfolding or_test
 answered [] low = refl
 answered (t ∷ ts) low = tried_all (t ∷ ts) low
 
+-- one test more, after all others
+pub last_test : (ts : List Test) (t : Test) → T (numbered ts) → first_of (ts ++ (t ∷ [])) ≡ or_test (first_of ts) t
+unfolding or_test
+last_test [] t low = refl
+last_test (s ∷ ts) t low = by s.fails s.number (both_left (ltb 0 s.number) (numbered ts) low) (last_test ts t (both_right (ltb 0 s.number) (numbered ts) low))
+  where
+    by : (fails : Bool) (n : ℕ) → T (ltb 0 n) → first_of (ts ++ (t ∷ [])) ≡ or_test (first_of ts) t
+        → pick fails n (first_of (ts ++ (t ∷ []))) ≡ or_test (pick fails n (first_of ts)) t
+    by true zero l e = absurd l
+    by true (suc n) l e = rw (ne_eqb (suc n) 0 (λ z. omega arith))
+    by false n l e = e
+
 -- what a call knows that is accepted
 pub all_passed : (ts : List Test) → T (numbered ts) → first_of ts ≡ 0 → Passed ts
 all_passed [] low e = tt
@@ -67,6 +79,9 @@ passed_known code e = ltb-true code codes (not-false (ltb code codes) e)
 
 pub passed_length : (have want : ℕ) → unlike have want ≡ false → have ≡ want
 passed_length have want e = eqb-true have want (not-false (eqb have want) e)
+
+pub passed_limit : (limit : ℕ) → too_many limit ≡ false → Allowed limit
+passed_limit limit e = ltb-false max_iters limit e
 
 -- what a call leaves, by its answer and by whether that is 0: where it was refused, and where it was accepted
 module _ {A : Type 0} (left : ℕ → Bool → A) {given answer : ℕ} (e : given ≡ answer) where

@@ -1,5 +1,5 @@
 -- The numbers by which the library answers. Assumes nothing.
-use Rattle.std.specs.Prelude.{Bool, not, List, [], ◌∷◌, ℕ, eqb}
+use Rattle.std.specs.Prelude.{Bool, not, List, [], ◌∷◌, ℕ, ◌≤◌, eqb, ltb}
 use Rattle.maths.specs.Tests.{pick}
 
 -- a test that a call can fail, and the number that it is then refused by
@@ -22,3 +22,14 @@ or_test answer t = pick (eqb answer 0) (pick t.fails t.number 0) answer
 -- a length that is not the one asked for
 abbrev pub unlike : ℕ → ℕ → Bool
 unlike have want = not (eqb have want)
+
+-- Request T-05, ahead of its landing: "refuse a limit above 4,096 with a new number 6". The most iterations that a decoder may be asked for then,
+-- a limit up to it, and one above it
+abbrev pub max_iters : ℕ
+max_iters = 4096
+
+abbrev pub Allowed : ℕ → Type 0
+Allowed limit = limit ≤ max_iters
+
+abbrev pub too_many : ℕ → Bool
+too_many limit = ltb max_iters limit

@@ -3,7 +3,7 @@
 #![tactic(auto)]
 
 ghost use Rattle.std.specs.Prelude.{◌≡◌};
-ghost use Rattle.codes.specs.Answers.{test, or_test, unlike};
+ghost use Rattle.codes.specs.Answers.{test, or_test, unlike, too_many};
 ghost use Rattle.codes.specs.Codes.{Known, row_of, params_of, tables_of, prototype_of, phi_of};
 
 pub mod parity_iter;
@@ -23,6 +23,12 @@ pub const WRONG_WORKING: u8 = 4;
 
 pub const WRONG_SIGNS: u8 = 5;
 
+// Request T-05, ahead of its landing: no call is refused by this yet.
+pub const LIMIT_TOO_LARGE: u8 = 6;
+
+// The most iterations that a decoder may be asked for then.
+pub const MAX_ITERS: usize = 4096;
+
 // One test more: the answer so far, or the number of this test where the answer was 0 and the test fails.
 pub fn or_test(answer: u8, fails: bool, number: u8) -> u8
     ensures { result ≡ or_test answer (test fails number) }
@@ -41,6 +47,13 @@ pub fn or_length(answer: u8, have: usize, want: usize, number: u8) -> u8
     ensures { result ≡ or_test answer (test (unlike have want) number) }
 {
     or_test(answer, have != want, number)
+}
+
+// The test that a decoder may be asked for so many iterations.
+pub fn or_limit(answer: u8, limit: usize) -> u8
+    ensures { result ≡ or_test answer (test (too_many limit) 6) }
+{
+    or_test(answer, limit > MAX_ITERS, LIMIT_TOO_LARGE)
 }
 
 // How many codes there are: TC128, TC256, TC512, TM1280, TM1536, TM2048, TM5120, TM6144, TM8192, numbered from 0.
