@@ -1,4 +1,4 @@
--- Words and frames of the TM codes: those that meet the equations are four sent bits apart, and what follows for a frame that comes damaged. Assumes nothing.
+-- Words and frames of the TM codes: those that meet the equations are four sent bits apart. Assumes nothing.
 use mathlib.Core.List.{List}
 use mathlib.Core.Path.{◌≡◌, ◌∙◌, subst}
 use Prim.Native.Nat.{ℕ, ◌/◌, ◌≤◌, ◌<◌}

@@ -3,7 +3,6 @@ use Rattle.encoder.proofs.Answered.{copy_answer, copy_refused, copy_fits, copy_d
 use Rattle.encoder.proofs.copy_encode.Goals as goal
 
 -- the answer is that of the tests
-
 pub returns-then-answer-ne-ACCEPTED : goal.returns-then-answer-ne-ACCEPTED
 returns-then-answer-ne-ACCEPTED c =
     let a = c.args in

@@ -1,8 +1,6 @@
 use Rattle.codes.proofs.Blocks.{asking}
 use Rattle.codes.proofs.parity_iter.block_from.Goals as goal
 
--- eight for each cell not yet asked, and one for each layer of this one
-
 pub loop-row-init : goal.loop-row-init
 loop-row-init c = search asking
 

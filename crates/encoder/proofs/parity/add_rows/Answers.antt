@@ -15,7 +15,6 @@ loop-c-init c =
     (omega arith, rowed_none a.codeword.now a.at a.len a.b (row_bit a.len a.rows.now) a.o c.requires.1.parity_low (λ i. (c.type_inv.codeword i).fits))
 
 -- the data bit of the row is before the parity part
-
 pub overflow_mul-i : goal.overflow_mul-i
 overflow_mul-i c =
     let low : c.loop-c.c * c.args.b + c.args.o < c.args.at * 8 = bit_low c.requires.1 c.loop-c.c c.args.o c.loop-c-test.true c.requires.0 in

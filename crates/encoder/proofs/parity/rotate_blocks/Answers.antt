@@ -13,7 +13,6 @@ loop-i-init c =
     rw zero-mul (grown_none a.codeword.now a.at (a.blocks * a.len) (turned_all a.codeword.now a.at a.len) c.requires.1)
 
 -- block i is within the part
-
 pub overflow_mul-i : goal.overflow_mul-i
 overflow_mul-i c = omega (arith, block_low c.loop-i.i c.args.blocks c.args.len c.loop-i-test.true)
 

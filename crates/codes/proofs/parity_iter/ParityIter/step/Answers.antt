@@ -37,7 +37,6 @@ at {w} code row col layer i asked H k =
     }
 
 -- what the block that was found says
-
 module _ {w : ParityIter} {m : ℕ} {k : Block} (a : At w m k) where
   high : m ≤ max_block
   high = rw a.size (sized w.code a.inside.code_low).high
