@@ -2,25 +2,33 @@
 use mathlib.Core.Bool.{Bool, true, false}
 use mathlib.Core.List.{List}
 use mathlib.Core.Path.{◌≡◌, refl, sym, ap, ◌∙◌}
-use Prim.Native.Nat.{ℕ, ◌<◌}
+use Prim.Native.Nat.{ℕ, ◌/◌}
 use lib.IntN.{ℤ, pos, negsuc}
-use lib.ListN.{get_or}
 use Rattle.maths.specs.Tests.{Agrees}
-use Rattle.codes.specs.declared.parity_iter.Step.{Step}
+use native.Mathlib.Omega.{arith}
+use Rattle.std.specs.Prelude.{Option, Result, Ok, Err, ⊤}
+use Rattle.codes.specs.declared.refusal.Refusal.{Refusal}
+use Rattle.codes.specs.declared.parity_iter.Check.{Check}
+use Rattle.codes.specs.declared.parity_iter.Bit.{Bit}
 use Rattle.codes.specs.declared.parity_iter.ParityIter.{ParityIter}
+use Rattle.codes.specs.Answers.{number, answer_of}
+use Rattle.codes.specs.Codes.{row_of}
+use Rattle.codes.specs.Walk.{Steps}
+use Rattle.codes.proofs.Answers.{answer_decides, number_decides, number_above}
 use Rattle.runs.specs.declared.EdgeRun.{EdgeRun}
-use Rattle.codes.specs.Walk.{remaining, step_of, after}
-use Rattle.runs.specs.Runs.{Run, run, read_runs}
-use Rattle.report.specs.declared.Report.{Report}
+use Rattle.runs.specs.Meets.{Met, met_by, met_of}
+use Rattle.report.specs.declared.Ended.{Ended}
+use Rattle.report.specs.Report.{report_of}
+use Rattle.report.proofs.Ending.{report_decides}
 use Rattle.encoder.specs.Outcomes.{Encoded, encoded, encode_outcome, copy_encode_outcome}
 use Rattle.bit_flip.specs.Outcome as flip
-use Rattle.min_sum.specs.declared.layout.Layout.{Layout}
 use Rattle.min_sum.specs.Confidence.{i8}
-use Rattle.min_sum.specs.Working.{buffers, Exchanged, exchange, exchanged}
-use Rattle.min_sum.specs.Outcomes.{Outcome, left, decode_outcome, Written, written, to_llrs_outcome, to_hard_outcome}
+use Rattle.min_sum.specs.declared.layout.Layout.{Layout}
+use Rattle.min_sum.specs.Working.{Parts, lent_as, restart_parts, Exchanged, exchange, exchanged}
+use Rattle.min_sum.specs.Outcomes.{Outcome, left, decode_answer, decode_outcome, convert_answer, Written, written, to_llrs_outcome, to_hard_outcome}
 use Rattle.labrador_ldpc.specs.Doors.{Row, row, params_outcome, Hard, hard, hard_door, Soft, soft, soft_door}
-use Rattle.sheet_text.specs.declared.read.Reading.{Reading}
-use Rattle.sheet_text.specs.Reading.{read_of, text_number, read_answer}
+use Rattle.sheet_text.specs.declared.read.Request.{Request}
+use Rattle.sheet_text.specs.Reading.{asked, read_of, text_number, read_answer}
 
 -- what two outcomes both equal makes them equal: this is the theorem of a function that leaves one thing behind, its answer or a buffer, whose promise is an equation for it
 pub one : {A : Type 0} {x y z : A} → x ≡ z → y ≡ z → x ≡ y
@@ -32,23 +40,22 @@ agrees_one true s a b = sym (b.complete (a.sound refl))
 agrees_one false true a b = a.complete (b.sound refl)
 agrees_one false false a b = refl
 
--- ---- codes and runs
-pub byte_one : (b : ℕ) {x y : ℕ} → (x ≡ b) × (x < 256) → (y ≡ b) × (y < 256) → x ≡ y
-byte_one b p q = one p.0 q.0
+-- ---- codes and runs: what a step of the walk answers, and the walk that it leaves; the runs that are lent; whether a word meets the equations
+pub step_one : (walk : ParityIter) {x y : Option (Check × Bit)} {w v : ParityIter} → Steps walk x w → Steps walk y v → (x ≡ y) × (w ≡ v)
+step_one walk p q = (one p.answers q.answers, one p.moves q.moves)
 
-pub wide_one : (b : ℕ) {x y : ℕ} → (x ≡ b) × (x < 65536) → (y ≡ b) × (y < 65536) → x ≡ y
-wide_one b p q = one p.0 q.0
+-- what is lent of a struct: the runs of a list of few, the text of an answer
+pub as_slice_one : {A : Type 0} (items : List A) {x y : List A} → x ≡ items → y ≡ items → x ≡ y
+as_slice_one items p q = one p q
 
-pub step_one : (walk : ParityIter) {x y : Step} → (x ≡ step_of walk) × (after x ≡ remaining walk) → (y ≡ step_of walk) × (after y ≡ remaining walk) → x ≡ y
-step_one walk p q = one p.0 q.0
-
-pub run_at_one : (triples : List ℕ) (i : ℕ) {x y : EdgeRun}
-    → run x.check.0 x.bit.0 x.size ≡ get_or (read_runs triples) i (run 0 0 0)
-    → run y.check.0 y.bit.0 y.size ≡ get_or (read_runs triples) i (run 0 0 0) → x ≡ y
-run_at_one triples i p q = ap edge_run (one p q)
+pub meets_one : (code : ℕ) (word : List ℕ) {r s : Result Bool Refusal} → met_by r ≡ met_of code word → met_by s ≡ met_of code word → r ≡ s
+meets_one code word {r} {s} p q = by r s (one p q)
   where
-    edge_run : Run → EdgeRun
-    edge_run r = record { check = record { 0 = r.check }; bit = record { 0 = r.bit }; size = r.size }
+    by : (r s : Result Bool Refusal) → met_by r ≡ met_by s → r ≡ s
+    by (Ok a) (Ok b) e = ap Ok (ap (λ (x : Met). x.met) e)
+    by (Err a) (Err b) e = ap Err (number_decides a b (ap (λ (x : Met). x.answer) e))
+    by (Ok a) (Err b) e = let z : 0 ≡ number b = ap (λ (x : Met). x.answer) e in absurd (omega (arith, z, number_above b))
+    by (Err a) (Ok b) e = let z : number a ≡ 0 = ap (λ (x : Met). x.answer) e in absurd (omega (arith, z, number_above a))
 
 -- ---- encoder: the answer and the codeword
 encoded_parts : {a a' : ℕ} {s s' : List ℕ} → encoded a s ≡ encoded a' s' → (a ≡ a') × (s ≡ s')
@@ -63,43 +70,61 @@ pub copy_encode_one : (code : ℕ) (message codeword : List ℕ) {a a' : ℕ} {s
 copy_encode_one code message codeword p q = encoded_parts (one p q)
 
 -- ---- bit_flip: the report, the output and the working buffer
-pub decode_bf_one : (code : ℕ) (input output working : List ℕ) (limit : ℕ) {r r' : Report} {o o' w w' : List ℕ}
-    → flip.left r o w ≡ flip.outcome code input output working limit → flip.left r' o' w' ≡ flip.outcome code input output working limit
+pub decode_bf_one : (code : ℕ) (input output working : List ℕ) (limit : ℕ) {r r' : Result Ended Refusal} {o o' w w' : List ℕ}
+    → flip.left (report_of r) o w ≡ flip.outcome code input output working limit → flip.left (report_of r') o' w' ≡ flip.outcome code input output working limit
     → (r ≡ r') × (o ≡ o') × (w ≡ w')
-decode_bf_one code input output working limit p q =
+decode_bf_one code input output working limit {r} {r'} p q =
     let e = one p q in
-    (ap (λ (x : flip.Outcome). x.report) e, ap (λ (x : flip.Outcome). x.output) e, ap (λ (x : flip.Outcome). x.working) e)
+    (report_decides r r' (ap (λ (x : flip.Outcome). x.report) e), ap (λ (x : flip.Outcome). x.output) e, ap (λ (x : flip.Outcome). x.working) e)
 
--- ---- min_sum: the answer and both buffers of the messages; the report, the output and both working buffers; the answer and the buffer that is written
-pub exchange_one : (at : Layout) (rs : List Run) (w : List ℤ) (marks : List ℕ) {b b' : Bool} {v v' : List ℤ} {s s' : List ℕ}
-    → exchange b (buffers v s) ≡ exchanged i8 at rs (buffers w marks) → exchange b' (buffers v' s') ≡ exchanged i8 at rs (buffers w marks)
-    → (b ≡ b') × (v ≡ v') × (s ≡ s')
-exchange_one at rs w marks p q =
-    let e = one p q in
-    (ap (λ (x : Exchanged ℤ). x.even) e, ap (λ (x : Exchanged ℤ). x.left.working) e, ap (λ (x : Exchanged ℤ). x.left.marks) e)
+-- ---- min_sum: the answer and all parts of the messages; the report, the output and both working buffers; the answer and the buffer that is written
+pub new_one : (l : Layout) (llrs w : List ℤ) (rs : List EdgeRun) (marks : List ℕ) {x y : Option (Parts ℤ)}
+    → x ≡ lent_as l llrs rs w marks → y ≡ lent_as l llrs rs w marks → x ≡ y
+new_one l llrs w rs marks p q = one p q
+
+pub marginals_one : (p : Parts ℤ) {x y : List ℤ} → x ≡ p.marginals → y ≡ p.marginals → x ≡ y
+marginals_one p e f = one e f
+
+pub pass_one : (p : Parts ℤ) {b b' : Bool} {q q' : Parts ℤ} → exchange b q ≡ exchanged i8 (restart_parts i8 p) → exchange b' q' ≡ exchanged i8 (restart_parts i8 p)
+    → (b ≡ b') × (q ≡ q')
+pass_one p e f =
+    let g = one e f in
+    (ap (λ (x : Exchanged ℤ). x.even) g, ap (λ (x : Exchanged ℤ). x.left) g)
 
 pub decode_ms_i8_one : (code : ℕ) (llrs : List ℤ) (output : List ℕ) (working : List ℤ) (signs : List ℕ) (limit : ℕ)
-    {r r' : Report} {o o' : List ℕ} {w w' : List ℤ} {s s' : List ℕ}
-    → left r o w s ≡ decode_outcome i8 code llrs output working signs limit → left r' o' w' s' ≡ decode_outcome i8 code llrs output working signs limit
+    {r r' : Result Ended Refusal} {o o' : List ℕ} {w w' : List ℤ} {s s' : List ℕ}
+    → left (report_of r) o w s ≡ decode_outcome i8 code llrs output working signs limit → left (report_of r') o' w' s' ≡ decode_outcome i8 code llrs output working signs limit
     → (r ≡ r') × (o ≡ o') × (w ≡ w') × (s ≡ s')
-decode_ms_i8_one code llrs output working signs limit p q =
+decode_ms_i8_one code llrs output working signs limit {r} {r'} p q =
     let e = one p q in (
-      ap (λ (x : Outcome ℤ). x.report) e,
+      report_decides r r' (ap (λ (x : Outcome ℤ). x.report) e),
       ap (λ (x : Outcome ℤ). x.output) e,
       ap (λ (x : Outcome ℤ). x.working) e,
       ap (λ (x : Outcome ℤ). x.working_u8) e,
     )
 
+pub decode_refusal_one : (code llrs output working signs : ℕ) {x y : Result ⊤ Refusal}
+    → answer_of x ≡ decode_answer code llrs output working signs → answer_of y ≡ decode_answer code llrs output working signs → x ≡ y
+decode_refusal_one code llrs output working signs {x} {y} p q = answer_decides x y (one p q)
+
+pub to_llrs_refusal_one : (code input llrs : ℕ) {x y : Result ⊤ Refusal} → answer_of x ≡ convert_answer code input ((row_of code).n / 8) llrs (row_of code).n
+    → answer_of y ≡ convert_answer code input ((row_of code).n / 8) llrs (row_of code).n → x ≡ y
+to_llrs_refusal_one code input llrs {x} {y} p q = answer_decides x y (one p q)
+
+pub to_hard_refusal_one : (code llrs output : ℕ) {x y : Result ⊤ Refusal} → answer_of x ≡ convert_answer code llrs (row_of code).n output ((row_of code).n / 8)
+    → answer_of y ≡ convert_answer code llrs (row_of code).n output ((row_of code).n / 8) → x ≡ y
+to_hard_refusal_one code llrs output {x} {y} p q = answer_decides x y (one p q)
+
 written_parts : {A : Type 0} {a a' : ℕ} {s s' : List A} → written a s ≡ written a' s' → (a ≡ a') × (s ≡ s')
 written_parts {A} e = (ap (λ (x : Written A). x.answer) e, ap (λ (x : Written A). x.buffer) e)
 
-pub hard_to_llrs_i8_one : (code : ℕ) (input : List ℕ) (llrs : List ℤ) {a a' : ℕ} {s s' : List ℤ}
-    → written a s ≡ to_llrs_outcome (negsuc 0) (pos 1) code input llrs → written a' s' ≡ to_llrs_outcome (negsuc 0) (pos 1) code input llrs → (a ≡ a') × (s ≡ s')
-hard_to_llrs_i8_one code input llrs p q = written_parts (one p q)
+pub hard_to_llrs_i8_one : (code : ℕ) (input : List ℕ) (llrs : List ℤ) {a a' : Result ⊤ Refusal} {s s' : List ℤ}
+    → written (answer_of a) s ≡ to_llrs_outcome (negsuc 0) (pos 1) code input llrs → written (answer_of a') s' ≡ to_llrs_outcome (negsuc 0) (pos 1) code input llrs → (a ≡ a') × (s ≡ s')
+hard_to_llrs_i8_one code input llrs {a} {a'} p q = let e = written_parts (one p q) in (answer_decides a a' e.0, e.1)
 
-pub llrs_to_hard_i8_one : (code : ℕ) (llrs : List ℤ) (output : List ℕ) {a a' : ℕ} {s s' : List ℕ}
-    → written a s ≡ to_hard_outcome i8 code llrs output → written a' s' ≡ to_hard_outcome i8 code llrs output → (a ≡ a') × (s ≡ s')
-llrs_to_hard_i8_one code llrs output p q = written_parts (one p q)
+pub llrs_to_hard_i8_one : (code : ℕ) (llrs : List ℤ) (output : List ℕ) {a a' : Result ⊤ Refusal} {s s' : List ℕ}
+    → written (answer_of a) s ≡ to_hard_outcome i8 code llrs output → written (answer_of a') s' ≡ to_hard_outcome i8 code llrs output → (a ≡ a') × (s ≡ s')
+llrs_to_hard_i8_one code llrs output {a} {a'} p q = let e = written_parts (one p q) in (answer_decides a a' e.0, e.1)
 
 -- ---- labrador_ldpc: the answer, success and iterations, and every buffer that is written
 pub ldpc_params_one : (code : ℕ) (to : List ℕ) {a a' : ℕ} {s s' : List ℕ}
@@ -145,12 +170,13 @@ ldpc_decode_ms_i8_one code llrs output working signs limit p q =
 
 pub ldpc_hard_to_llrs_i8_one : (code : ℕ) (input : List ℕ) (llrs : List ℤ) {a a' : ℕ} {s s' : List ℤ}
     → written a s ≡ to_llrs_outcome (negsuc 0) (pos 1) code input llrs → written a' s' ≡ to_llrs_outcome (negsuc 0) (pos 1) code input llrs → (a ≡ a') × (s ≡ s')
-ldpc_hard_to_llrs_i8_one = hard_to_llrs_i8_one
+ldpc_hard_to_llrs_i8_one code input llrs p q = written_parts (one p q)
 
 pub ldpc_llrs_to_hard_i8_one : (code : ℕ) (llrs : List ℤ) (output : List ℕ) {a a' : ℕ} {s s' : List ℕ}
     → written a s ≡ to_hard_outcome i8 code llrs output → written a' s' ≡ to_hard_outcome i8 code llrs output → (a ≡ a') × (s ≡ s')
-ldpc_llrs_to_hard_i8_one = llrs_to_hard_i8_one
+ldpc_llrs_to_hard_i8_one code llrs output p q = written_parts (one p q)
 
 -- ---- sheet
-pub read_one : (text : List ℕ) {x y : Reading} → (x ≡ read_of text) × (text_number x ≡ read_answer text) → (y ≡ read_of text) × (text_number y ≡ read_answer text) → x ≡ y
-read_one text p q = one p.0 q.0
+pub read_one : (text : List ℕ) (r r' : Option Request) → (asked r ≡ read_of text) × (text_number (asked r) ≡ read_answer text)
+    → (asked r' ≡ read_of text) × (text_number (asked r') ≡ read_answer text) → asked r ≡ asked r'
+read_one text r r' p q = one p.0 q.0

@@ -2,18 +2,26 @@
 
 #![tactic(auto)]
 
-ghost use Rattle.std.specs.Prelude.{length};
-ghost use Rattle.bench.specs.Input.{Within};
+ghost use Rattle.std.specs.Prelude.{◌≤◌, length, IfOk};
 
 use sheet_text::read::TEXT_ROOM;
 use std::io;
 use std::io::Read;
 
-// What came: so many bytes, or a read that failed.
-#[derive(Clone, Copy)]
-enum Input {
-    Failed,
-    Bytes(usize),
+// Reads to the end of the input, or until the buffer is full.
+fn read_text(from: &mut impl Read, text: &mut [u8]) -> io::Result<usize>
+    ensures { IfOk result (λ n. n ≤ length text.new) }
+{
+    let mut done = 0;
+    // No iterator: only a read says how much it brought.
+    while done < text.len() {
+        let more = from.read(&mut text[done..])?;
+        if more == 0 {
+            break;
+        }
+        done += more;
+    }
+    Ok(done)
 }
 
 // Writes a line to standard error: what failed, a colon and why.
@@ -21,53 +29,14 @@ fn fail(rt: &impl Eprint, what: &str, why: io::Error) {
     let _ = eprintln!(rt; "{what}: {why}");
 }
 
-// One read, which may bring less than there is; nothing at the end of the input. One that fails is told.
-fn read_some(rt: &impl Eprint, from: &mut impl Read, rest: &mut [u8]) -> Input
-    ensures { Within result (length rest.new) }
-{
-    match from.read(rest) {
-        Ok(n) => Input::Bytes(n),
-        Err(why) => {
-            fail(rt, "standard input", why);
-            Input::Failed
-        }
-    }
-}
-
-// Reads to the end of the input, or until the buffer is full.
-fn read_text(rt: &impl Eprint, from: &mut impl Read, text: &mut [u8]) -> Input
-    ensures { Within result (length text.new) }
-{
-    let mut done: usize = 0;
-    while done < text.len() {
-        let Input::Bytes(more) = read_some(rt, from, &mut text[done..]) else {
-            return Input::Failed;
-        };
-        if more == 0 {
-            return Input::Bytes(done);
-        }
-        done += more;
-    }
-    Input::Bytes(done)
-}
-
-fn write_answer(rt: &(impl Print + Eprint), text: &[u8]) {
-    let a = sheet::sheet(text);
-    let bytes = a.bytes;
-    let len = a.len;
-    if let Err(why) = rt.write_all(&bytes[..len]) {
-        fail(rt, "standard output", why);
-    }
-}
-
-fn answer_input(rt: &(impl Print + Eprint), from: &mut impl Read, text: &mut [u8]) {
-    let Input::Bytes(n) = read_text(rt, from, text) else {
-        return;
-    };
-    write_answer(rt, &text[..n]);
-}
-
 fn main(rt: HostRuntime) {
     let mut text = [0u8; TEXT_ROOM];
-    answer_input(&rt, &mut rt.stdin(), &mut text);
+    match read_text(&mut rt.stdin(), &mut text) {
+        Ok(n) => {
+            if let Err(why) = rt.write_all(sheet::sheet(&text[..n]).as_slice()) {
+                fail(&rt, "standard output", why);
+            }
+        }
+        Err(why) => fail(&rt, "standard input", why),
+    }
 }

@@ -1,6 +1,6 @@
 -- What the erasure pass leaves in its bytes is what the definition says. Assumes nothing.
 use mathlib.Core.Bool.{Bool, true, false}
-use mathlib.Core.List.{List, [], ◌∷◌, map}
+use mathlib.Core.List.{List, [], ◌∷◌, map, append-nil}
 use mathlib.Core.Path.{◌≡◌, refl, sym, ap, ◌∙◌}
 use Prim.Native.Nat.{ℕ, ◌+◌, ◌-◌, ◌*◌, ◌/◌, ◌%◌, ◌≤◌, ◌<◌, min}
 use native.Mathlib.Decide.{dec_lt}
@@ -8,15 +8,19 @@ use native.Mathlib.Omega.{arith}
 use borrow.Author.Tests.{lt-ltb, le-ltb, le-leb, lt-leb}
 use borrow.Author.Rules.{rules}
 use lib.Dec.{T, eqb, ltb, leb}
-use lib.ListN.{length, set, get_or-eq_default}
+use lib.ListN.{length, take, drop, replicate, drop_of_length-le, length-drop, get_or-eq_default}
+use Rattle.std.proofs.Common.{get_or-take}
+use lib.Seq.{length-take-le}
+use native.Mathlib.Nat.{zero-add}
+use borrow.Rule.Slice.PartMut.{put_mid}
 use Rattle.maths.specs.Tests.{pick, all}
 use Rattle.maths.specs.Lists.{span, fold}
 use Rattle.maths.specs.Sums.{sum_l}
 use Rattle.maths.proofs.Tests.{pick_both, both_true, both_false}
-use Rattle.maths.proofs.Lists.{span_length, span_ext, map_span}
-use Rattle.maths.proofs.Slices.{span_get, span_is, overwrite_same}
-use Rattle.maths.proofs.Writing.{Written, written_more, written_all}
+use Rattle.maths.proofs.Lists.{span_length, span_ext, span_split, map_span}
+use Rattle.maths.proofs.Slices.{span_get, span_is, span_one}
 use Rattle.codes.specs.Edges.{Edge, in_range}
+use Rattle.runs.specs.declared.EdgeRun.{EdgeRun}
 use Rattle.runs.specs.Runs.{laid}
 use Rattle.codes.specs.Equations.{check_of, bit_of, bits_of, checks_of, par, word_of}
 use Rattle.runs.specs.Meets.{syndrome_of}
@@ -27,9 +31,8 @@ use Rattle.scores.specs.Votes.{add_erased, count_erased, vote_byte, cast_votes, 
 use Rattle.scores.proofs.Scores.{gave}
 use Rattle.scores.proofs.Casting.{into_erased, vote_one, settle_one}
 use Rattle.bit_flip.specs.Erasures.{erased_edges, others, ayes, nays, voted, filled, erasure_passes, from_on}
-use Rattle.bit_flip.specs.Steps.{set_from, FewEdges, Bits, Marked}
+use Rattle.bit_flip.specs.Steps.{set_from, FewEdges, FewLaid, Bits, Marked}
 use Rattle.bit_flip.proofs.Scores.{sum_ranged}
-use Rattle.bit_flip.proofs.Passing.{few_moved}
 
 -- ---- sums
 sum_same : (g g' : ℕ → ℕ) → ((v : ℕ) → g v ≡ g' v) → (vs : List ℕ) → sum_l vs g ≡ sum_l vs g'
@@ -130,9 +133,9 @@ module _ (erased : ℕ → Bool) (es : List Edge) (m n : ℕ) (w b : List ℕ) (
   voted_by e₅ e₄ e = e₅ ∙ rw e₄ (settled _ (e ∙ ap (map vote_byte) (counted refl refl)))
 
 -- ---- over the edges of those runs that lie within m checks and n bits
-pub vote_by : (erased : ℕ → Bool) (ns w b s b₁ b₂ : List ℕ) (k m n : ℕ) → b₂ ≡ map settle_byte b₁ → b₁ ≡ fold (give (word_of s)) (laid k n ns) b
-    → s ≡ cast_votes (laid m n ns) m b → k ≡ m → FewEdges (laid m n ns) → Marked erased w b → b₂ ≡ voted erased (laid m n ns) w
-vote_by erased ns w b s b₁ b₂ k m n e₅ e₄ e l few mark = voted_by erased (laid m n ns) m n w b (laid_ranged m n ns) few mark e₅ (rw l at e₄) e
+pub vote_by : (erased : ℕ → Bool) (rs : List EdgeRun) (w b s b₁ b₂ : List ℕ) (k m n : ℕ) → b₂ ≡ map settle_byte b₁ → b₁ ≡ fold (give (word_of s)) (laid k n rs) b
+    → s ≡ cast_votes (laid m n rs) m b → k ≡ m → FewLaid rs → Marked erased w b → b₂ ≡ voted erased (laid m n rs) w
+vote_by erased rs w b s b₁ b₂ k m n e₅ e₄ e l few mark = voted_by erased (laid m n rs) m n w b (laid_ranged m n rs) (few m n) mark e₅ (rw l at e₄) e
 
 -- ---- the bits from n on are erased
 module _ (n x : ℕ) (w : List ℕ) where
@@ -144,28 +147,18 @@ module _ (n x : ℕ) (w : List ℕ) where
   unfolding set_from
   from_at v h = span_get (λ v. pick (leb n v) x (word_of w v)) 0 (length w) v h
 
--- a loop that sets them, at turn i: those before i are set
-pub record Setting (n x : ℕ) (w₀ : List ℕ) (i : ℕ) (w : List ℕ) : Type 0 where
-  pub from : n ≤ i
-  pub written : Written (λ v. pick (leb n v) x (word_of w₀ v)) w₀ i w
-
-module _ {n x : ℕ} {w₀ : List ℕ} where
-  pub set_begins : n ≤ length w₀ → Setting n x w₀ n w₀
-  set_begins h =
-      record {
-        from = omega arith;
-        written = record { low = h; long = refl; front = overwrite_same (λ v. pick (leb n v) x (word_of w₀ v)) w₀ 0 n h (λ v k. rw (lt-leb n v k)) };
-      }
-
-  module _ {i k : ℕ} {w : List ℕ} (s : Setting n x w₀ i w) where
-    pub set_more : i < k → k ≡ length w₀ → Setting n x w₀ (i + 1) (set w i x)
-    set_more h e = record { from = omega (arith, s.from); written = written_more s.written h e (rw (le-leb n i s.from)) }
-
-    pub set_ends : k ≤ i → k ≡ length w₀ → w ≡ set_from n x w₀
-    unfolding set_from
-    set_ends h e = written_all s.written h e
-
-pub ruleset sets = (set_begins, set_more, set_ends, rules)
+-- filled from there on
+pub set_by : (n x : ℕ) (w w' : List ℕ) → n ≤ length w → w' ≡ replicate (length w - n) x → put_mid n (length w - n) w w' ≡ set_from n x w
+unfolding set_from
+set_by n x w w' h e =
+    let k = length w - n in
+    let f : ℕ → ℕ = λ v. pick (leb n v) x (word_of w v) in
+    let whole : n + k ≡ length w = omega arith in
+    let past : drop k (drop n w) ≡ [] = drop_of_length-le (drop n w) (omega (arith, length-drop n w)) in
+    let kept : take n w ≡ span f 0 n = span_is 0 (take n w) f n (length-take-le n w h) (λ i l. get_or-take n w i 0 l ∙ rw (lt-leb n i l)) in
+    let set : replicate k x ≡ span f n k =
+    sym (span_ext f (λ v. x) n 0 k (λ j l. let g : n ≤ n + j = omega arith in rw (le-leb n (n + j) g)) ∙ span_one x 0 k) in
+    rw (e, past, append-nil (replicate k x), kept, set) (rw (zero-add n, whole) at (sym (span_split f 0 n k)))
 
 pub marked : (n : ℕ) (w : List ℕ) → Bits w → Marked (from_on n (length w)) w (set_from n 2 w)
 marked n w bits = record { bits = bits; long = from_length n 2 w; byte = λ v. go v (dec_lt v (length w)) }
@@ -195,11 +188,11 @@ module _ (erased : ℕ → Bool) (es : List Edge) (p limit : ℕ) (w : List ℕ)
 pub all_sent : (erased : ℕ → Bool) (es : List Edge) (w : List ℕ) (t n limit : ℕ) → t ≤ n → filled w 0 ≡ erasure_passes erased es (t - n) limit w
 all_sent erased es w t n limit h = no_bits erased es (t - n) limit w (omega arith)
 
-pub erased_by : (ns w b w' : List ℕ) (m n limit : ℕ) → ((erased : ℕ → Bool) (u : List ℕ) → Marked erased u b → w' ≡ voted erased (laid m (length b) ns) u)
+pub erased_by : (rs : List EdgeRun) (w b w' : List ℕ) (m n limit : ℕ) → ((erased : ℕ → Bool) (u : List ℕ) → Marked erased u b → w' ≡ voted erased (laid m (length b) rs) u)
     → b ≡ set_from n 2 w → length b ≡ length w → Bits w → n < length w → (limit ≡ 0 → ⊥)
-    → filled w' 0 ≡ erasure_passes (from_on n (length w)) (laid m (length w) ns) (length w - n) limit w
-erased_by ns w b w' m n limit v e l bits h k =
-    one_pass (from_on n (length w)) (laid m (length w) ns) (length w - n) limit w (omega arith) (omega arith)
+    → filled w' 0 ≡ erasure_passes (from_on n (length w)) (laid m (length w) rs) (length w - n) limit w
+erased_by rs w b w' m n limit v e l bits h k =
+    one_pass (from_on n (length w)) (laid m (length w) rs) (length w - n) limit w (omega arith) (omega arith)
     (rw l at (v (from_on n (length w)) w (rw e (marked n w bits))))
 
-pub ruleset erasing = (vote_by, all_sent, no_limit, erased_by, few_moved, rules)
+pub ruleset erasing = (vote_by, all_sent, no_limit, erased_by, rules)

@@ -8,6 +8,7 @@ use Rattle.codes.specs.Answers.{Test, test, first_of, unlike}
 use Rattle.codes.specs.Codes.{known, row_of, bits_in, checks_in}
 use Rattle.codes.specs.Edges.{Edge, edges}
 use Rattle.codes.specs.Equations.{word_of}
+use Rattle.report.specs.declared.Ended.{Ended}
 use Rattle.report.specs.declared.Report.{Report}
 use Rattle.report.specs.Report.{refusal, ending, Told, told}
 use Rattle.bit_flip.specs.Flip.{passes}
@@ -25,6 +26,10 @@ left r o w = record { report = r; output = o; working = w }
 -- what is told of it
 abbrev pub told_flip : Outcome → Told
 told_flip x = told x.report x.output
+
+-- the report of passes that ended
+abbrev pub ended : Ended → Report
+ended e = ending e.success e.iters
 
 -- the report, and the word that the passes leave
 pub record Decoded : Type 0 where

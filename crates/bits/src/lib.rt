@@ -2,18 +2,11 @@
 
 #![tactic(auto)]
 
-ghost use Rattle.std.specs.Prelude.{◌≡◌, ◌+◌, ◌≤◌, max, length, get_or, replicate};
+ghost use Rattle.std.specs.Prelude.{◌≡◌, ◌+◌, ◌≤◌, length, get_or};
 ghost use Rattle.std.proofs.lemmas.List.Edits.{sets};
 ghost use Rattle.maths.specs.Lists.{largest_of};
 ghost use Rattle.maths.specs.Bytes.{byte};
 ghost use Rattle.bits.specs.Packed.{whole_bytes, eight, unpacked, packed};
-
-// How many whole bytes both have room for.
-fn whole_bytes(bytes: usize, bits: usize) -> usize
-    ensures { result ≡ whole_bytes bytes bits }
-{
-    if bytes < bits / 8 { bytes } else { bits / 8 }
-}
 
 fn unpack_byte(x: u8, bits: &mut [u8], v: usize)
     requires { v + 8 ≤ length bits.old }
@@ -33,9 +26,9 @@ fn unpack_byte(x: u8, bits: &mut [u8], v: usize)
 pub fn unpack(bytes: &[u8], bits: &mut [u8])
     ensures { bits.new ≡ unpacked bytes.now bits.old }
 {
-    let n = whole_bytes(bytes.len(), bits.len());
-    for i in 0..n {
-        unpack_byte(bytes[i], bits, 8 * i);
+    let n = bytes.len().min(bits.len() / 8);
+    for (i, byte) in bytes[..n].iter().enumerate() {
+        unpack_byte(*byte, bits, 8 * i);
     }
 }
 
@@ -58,17 +51,10 @@ fn pack_byte(bits: &[u8], v: usize) -> u8
 pub fn pack(bits: &[u8], bytes: &mut [u8])
     ensures { bytes.new ≡ packed bits.now bytes.old }
 {
-    let n = whole_bytes(bytes.len(), bits.len());
-    for i in 0..n {
-        bytes[i] = pack_byte(bits, 8 * i);
+    let n = bytes.len().min(bits.len() / 8);
+    for (i, byte) in bytes[..n].iter_mut().enumerate() {
+        *byte = pack_byte(bits, 8 * i);
     }
-}
-
-// The larger of two bytes.
-pub fn larger(a: u8, b: u8) -> u8
-    ensures { result ≡ max a b }
-{
-    if a < b { b } else { a }
 }
 
 // The largest byte; 0 where there is none.
@@ -76,16 +62,8 @@ pub fn largest(s: &[u8]) -> u8
     ensures { result ≡ largest_of s.now }
 {
     let mut top: u8 = 0;
-    for i in 0..s.len() {
-        top = larger(top, s[i]);
+    for x in s {
+        top = top.max(*x);
     }
     top
-}
-
-pub fn clear(s: &mut [u8])
-    ensures { s.new ≡ replicate (length s.old) 0 }
-{
-    for i in 0..s.len() {
-        s[i] = 0;
-    }
 }

@@ -1,17 +1,17 @@
 -- A byte as the confidence that it stands for, and the loops over bytes and confidences. Assumes nothing.
-use mathlib.Core.Bool.{true, false}
+use mathlib.Core.Bool.{Bool, true, false}
 use mathlib.Core.List.{List, map}
 use mathlib.Core.Path.{◌≡◌, refl, sym, ap, ◌∙◌}
-use Prim.Native.Nat.{ℕ, suc, ◌+◌, ◌-◌, ◌^◌, ◌≤◌, ◌<◌}
+use Prim.Native.Nat.{ℕ, ◌+◌, ◌^◌, ◌≤◌, ◌<◌}
+use native.Mathlib.Decide.{dec_lt}
 use native.Mathlib.Omega.{arith}
-use borrow.Author.Count.{below_more}
-use borrow.Author.Rules.{rules}
-use borrow.Author.Tests.{lt-ltb, le-ltb, eq-eqb, ne_eqb}
-use lib.IntN.{ℤ, pos, negsuc, ◌-ℤ◌}
+use borrow.Author.Tests.{lt-ltb, le-ltb, eqb-true, eq-eqb}
+use lib.Dec.{eqb}
+use lib.IntN.{ℤ, pos, negsuc}
 use lib.ListN.{length, get_or, set, length-map, get_or-map}
 use lib.Signed.{mag}
 use lib.Seq.{ext_get_or}
-use mir.Syntax.{w8, w16}
+use mir.Syntax.{w8}
 use mir.Val.{SFits, hbits, to_z, of_z}
 use mir.Facts.{to_z-of_z}
 use Rattle.maths.specs.Tests.{Agrees}
@@ -19,25 +19,27 @@ use Rattle.maths.specs.Lists.{span}
 use Rattle.maths.proofs.Tests.{denies}
 use Rattle.maths.proofs.Slices.{span_map}
 use Rattle.maths.proofs.Writing.{Written, written_none, written_more, written_all}
+use Rattle.std.specs.Prelude.{MatchBool, ◌≢◌}
+use Rattle.std.specs.List.{AllWithin, HoldsAt, zip}
+use Rattle.std.proofs.lemmas.Slice.Zip.{length-zip, get_or-zip}
 use Rattle.cases.specs.Cases.{signed, softened}
 
-module _ (x : ℕ) (few : x < 256) where
-  lowered : to_z w16 x -ℤ pos 256 ≡ negsuc (256 - suc x)
-  lowered = ap (λ (z : ℤ). z -ℤ pos 256) (to_z-of_z {w = w16} {z = pos x} (record { sfits = omega arith })) ∙ rw (lt-ltb x 256 few)
-
-  pub lowers : SFits w16 (to_z w16 x -ℤ pos 256)
-  lowers = rw lowered (record { sfits = omega arith })
-
-  pub narrows : 128 ≤ x → SFits w8 (to_z w16 (of_z w16 (to_z w16 x -ℤ pos 256)))
-  narrows h = rw (to_z-of_z lowers, lowered) (record { sfits = omega arith })
-
-  pub signed_above : 128 ≤ x → to_z w8 (of_z w8 (to_z w16 (of_z w16 (to_z w16 x -ℤ pos 256)))) ≡ signed x
-  unfolding signed
-  signed_above h = to_z-of_z (narrows h) ∙ to_z-of_z lowers ∙ lowered ∙ rw (le-ltb x 128 h) (ap negsuc (omega arith))
-
-pub signed_below : (x : ℕ) → x < 128 → to_z w8 x ≡ signed x
+-- the language's own conversion
+pub signed_is : (x : ℕ) → x < 256 → to_z w8 x ≡ signed x
 unfolding signed
-signed_below x h = to_z-of_z {w = w8} {z = pos x} (record { sfits = omega arith }) ∙ rw (lt-ltb x 128 h)
+signed_is x few = by (dec_lt x 128)
+  where
+    by : Dec (x < 128) → to_z w8 x ≡ signed x
+    by (yes l) = rw (lt-ltb x 128 l)
+    by (no n) = rw (le-ltb x 128 (omega arith)) (ap negsuc (omega arith))
+
+-- two confidences are compared by their bits
+pub bits_tell : (y z : ℤ) → SFits w8 y → SFits w8 z → Agrees (eqb (of_z w8 y) (of_z w8 z)) (z ≡ y)
+bits_tell y z f g =
+    record {
+      sound = λ h. sym (to_z-of_z g) ∙ ap (to_z w8) (sym (eqb-true _ _ h)) ∙ to_z-of_z f;
+      complete = λ p. eq-eqb _ _ (ap (of_z w8) (sym p));
+    }
 
 -- ---- the confidences of bytes, by number
 abbrev signed_at : List ℕ → ℕ → ℤ
@@ -57,9 +59,6 @@ pub record Softening (bytes : List ℕ) (soft₀ : List ℤ) (i : ℕ) (soft : L
   pub written : Written (signed_at bytes) soft₀ i soft
 
 module _ (bytes : List ℕ) (soft₀ : List ℤ) where
-  pub soften_not : (length soft₀ ≡ length bytes → ⊥) → soft₀ ≡ softened bytes soft₀
-  soften_not n = rw (ne_eqb (length soft₀) (length bytes) n)
-
   pub soften_begins : length soft₀ ≡ length bytes → Softening bytes soft₀ 0 soft₀
   soften_begins e = record { same = e; written = written_none }
 
@@ -72,38 +71,25 @@ module _ (bytes : List ℕ) (soft₀ : List ℤ) where
         written_all r.written h (sym r.same)
         ∙ rw (eq-eqb (length soft₀) (length bytes) r.same) (mapped bytes _ r.same)
 
--- ---- confidences are compared with bytes: the first i are the same
-pub record Same (soft : List ℤ) (bytes : List ℕ) (i : ℕ) : Type 0 where
-  pub low : i ≤ length bytes
-  pub long : length soft ≡ length bytes
-  pub front : (k : ℕ) → k < i → get_or soft k (pos 0) ≡ signed_at bytes k
+-- ---- confidences are compared with bytes, pair by pair
+pub same_by : (soft : List ℤ) (bytes : List ℕ) → length soft ≡ length bytes → (r : Bool)
+    → MatchBool r (AllWithin (λ (p : ℤ × ℕ). p.0 ≡ signed p.1) (zip soft bytes) 0 (length (zip soft bytes)))
+    ((k : ℕ) × (k < length (zip soft bytes)) × HoldsAt (λ (p : ℤ × ℕ). p.0 ≢ signed p.1) (zip soft bytes) k)
+    → Agrees r (soft ≡ map signed bytes)
+same_by soft bytes e r h = by r h
+  where
+    long : length (zip soft bytes) ≡ length soft
+    long = omega (arith, length-zip soft bytes)
 
-module _ (soft : List ℤ) (bytes : List ℕ) where
-  pub same_other : (length soft ≡ length bytes → ⊥) → Agrees false (soft ≡ map signed bytes)
-  same_other n = denies (λ p. n (ap length p ∙ length-map bytes signed))
+    pair : (k : ℕ) → k < length soft → get_or (zip soft bytes) k (pos 0, 0) ≡ (get_or soft k (pos 0), get_or bytes k 0)
+    pair k l = get_or-zip soft bytes k (pos 0, 0) l (omega arith)
 
-  pub same_begins : length soft ≡ length bytes → Same soft bytes 0
-  same_begins e = record { low = omega arith; long = e; front = λ k h. absurd (omega arith) }
-
-  module _ (i : ℕ) (r : Same soft bytes i) where
-    -- the bits of both are compared
-    module _ (y : ℤ) (e : y ≡ signed_at bytes i) where
-      pub same_not : (of_z w8 (get_or soft i (pos 0)) ≡ of_z w8 y → ⊥) → Agrees false (soft ≡ map signed bytes)
-      same_not n = denies (λ p. n (ap (of_z w8) (ap (λ (s : List ℤ). get_or s i (pos 0)) p ∙ mapped_at bytes i ∙ sym e)))
-
-      pub same_more : of_z w8 (get_or soft i (pos 0)) ≡ of_z w8 y → mag (get_or soft i (pos 0)) < 2 ^ hbits w8 → mag y < 2 ^ hbits w8 → i < length bytes → Same soft bytes (i + 1)
-      same_more h f g l =
-          record {
-            low = omega arith;
-            long = r.long;
-            front = below_more (λ (k : ℕ). get_or soft k (pos 0) ≡ signed_at bytes k) i r.front (sym (to_z-of_z {w = w8} (record { sfits = f })) ∙ ap (to_z w8) h ∙ to_z-of_z {w = w8} (record { sfits = g }) ∙ e);
-          }
-
-    pub same_ends : length bytes ≤ i → Agrees true (soft ≡ map signed bytes)
-    same_ends h =
-        record {
-          sound = λ _. ext_get_or (pos 0) soft (map signed bytes) (r.long ∙ sym (length-map bytes signed)) (λ k l. r.front k (omega (arith, r.low, r.long)) ∙ sym (mapped_at bytes k));
-          complete = λ p. refl;
-        }
-
-pub ruleset softens = (soften_not, soften_begins, soften_more, soften_ends, same_other, same_begins, same_not, same_more, same_ends, rules)
+    by : (r : Bool) → MatchBool r (AllWithin (λ (p : ℤ × ℕ). p.0 ≡ signed p.1) (zip soft bytes) 0 (length (zip soft bytes)))
+        ((k : ℕ) × (k < length (zip soft bytes)) × HoldsAt (λ (p : ℤ × ℕ). p.0 ≢ signed p.1) (zip soft bytes) k)
+        → Agrees r (soft ≡ map signed bytes)
+    by true all = record { sound = λ _. ext_get_or (pos 0) soft (map signed bytes) (e ∙ sym (length-map bytes signed)) (λ k l. (rw (pair k l) at (all k (pos 0, 0) (omega arith) (omega (arith, long)))) ∙ sym (mapped_at bytes k)); complete = λ _. refl }
+    by false some =
+        denies (λ p.
+        let k = some.0 in
+        let l : k < length soft = omega (arith, long, some.1) in
+        (rw (pair k l) at (some.2 (pos 0, 0))) (ap (λ (s : List ℤ). get_or s k (pos 0)) p ∙ mapped_at bytes k))

@@ -3,39 +3,26 @@ ghost use Rattle.std.specs.Prelude.{map, ◌≡◌};
 ghost use Rattle.maths.specs.Tests.{Agrees};
 ghost use Rattle.cases.specs.Cases.{signed, softened};
 
-fn soft_of(x: u8) -> i8
-    ensures { result ≡ signed x }
-{
-    if x < 128 {
-        x as i8
-    } else {
-        ((x as i16) - 256) as i8
-    }
-}
-
 // Slices of two lengths stay as they are.
 pub fn soften(bytes: &[u8], soft: &mut [i8])
     ensures { soft.new ≡ softened bytes.now soft.old }
 {
-    if soft.len() != bytes.len() {
-        return;
+    if soft.len() == bytes.len() {
+        for (i, x) in bytes.iter().enumerate() {
+            soft[i] = x.cast_signed();
+        }
     }
-    for i in 0..bytes.len() {
-        soft[i] = soft_of(bytes[i]);
-    }
+}
+
+fn stands_for(byte: u8, confidence: i8) -> bool
+    ensures { Agrees result (confidence ≡ signed byte) }
+{
+    byte.cast_signed() == confidence
 }
 
 // Whether the list holds these confidences.
 pub fn same_soft(soft: &[i8], bytes: &[u8]) -> bool
     ensures { Agrees result (soft.now ≡ map signed bytes.now) }
 {
-    if soft.len() != bytes.len() {
-        return false;
-    }
-    for i in 0..bytes.len() {
-        if soft[i] != soft_of(bytes[i]) {
-            return false;
-        }
-    }
-    true
+    soft.len() == bytes.len() && soft.iter().zip(bytes).all(|(&s, &x)| stands_for(x, s))
 }

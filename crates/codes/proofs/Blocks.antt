@@ -5,8 +5,7 @@ use Prim.Native.Nat.{ℕ, suc, ◌+◌, ◌-◌, ◌≤◌, ◌<◌}
 use native.Mathlib.Omega.{arith}
 use borrow.Author.Rules.{rules}
 use Rattle.codes.specs.declared.parity_iter.Place.{Place}
-use Rattle.codes.specs.declared.parity_iter.Found.{Found}
-use Rattle.codes.specs.declared.parity_iter.Found.TheVariants.{At, Nothing}
+use Rattle.std.specs.Prelude.{Option, Some, None}
 use Rattle.codes.specs.declared.parity_iter.Block.{Block}
 use Rattle.codes.specs.declared.parity_iter.Block.TheVariants.{Ends, Empty, Identity, Permutation}
 use Rattle.codes.specs.Blocks.{
@@ -93,16 +92,16 @@ unfolding cells_from last_rows
 from_first H = sym (cell_step H 0 0 (omega arith))
 
 -- ---- the loop that asks place after place: the first block from here on is the answer, and none past the last row
-pub record Asking (H : List (List (List ℕ))) (answer : Found) (r c l : ℕ) : Type 0 where
+pub record Asking (H : List (List (List ℕ))) (answer : Option Place) (r c l : ℕ) : Type 0 where
   pub low : c < 11
   pub here : r < 4 → head_of (blocks_from H r c l) ≡ answer
-  pub past : 4 ≤ r → Nothing ≡ answer
+  pub past : 4 ≤ r → None ≡ answer
 
 pub ask_begins : (H : List (List (List ℕ))) (r c l : ℕ) → r < 4 → c < 11 → Asking H (head_of (blocks_from H r c l)) r c l
 ask_begins H r c l h k = record { low = k; here = λ _. refl; past = λ g. absurd (omega arith) }
 
-module _ {H : List (List (List ℕ))} {answer : Found} {r c l : ℕ} (a : Asking H answer r c l) where
-  pub ask_nothing : 4 ≤ r → Nothing ≡ answer
+module _ {H : List (List (List ℕ))} {answer : Option Place} {r c l : ℕ} (a : Asking H answer r c l) where
+  pub ask_nothing : 4 ≤ r → None ≡ answer
   ask_nothing h = a.past h
 
   module _ (h : r < 4) where
@@ -117,11 +116,21 @@ module _ {H : List (List (List ℕ))} {answer : Found} {r c l : ℕ} (a : Asking
       pub ask_skips : k ≡ Empty → Asking H answer r c (l + 1)
       ask_skips f = record { low = a.low; here = λ _. headed (skip_step H r c l b (sym f ∙ e)); past = λ g. absurd (omega arith) }
 
-      pub ask_identity : (v : ℕ) → k ≡ Identity v → At (place r c l) ≡ answer
+      ask_identity : (v : ℕ) → k ≡ Identity v → Some (place r c l) ≡ answer
       ask_identity v f = headed (identity_step H r c l v b (sym f ∙ e))
 
-      pub ask_permutation : (v : ℕ) → k ≡ Permutation v → At (place r c l) ≡ answer
+      ask_permutation : (v : ℕ) → k ≡ Permutation v → Some (place r c l) ≡ answer
       ask_permutation v f = headed (permutation_step H r c l v b (sym f ∙ e))
+
+      ask_full : (b : Block) → k ≡ b → (k ≡ Ends → ⊥) → (k ≡ Empty → ⊥) → Some (place r c l) ≡ answer
+      ask_full Ends f x y = absurd (x f)
+      ask_full Empty f x y = absurd (y f)
+      ask_full (Identity v) f x y = ask_identity v f
+      ask_full (Permutation v) f x y = ask_permutation v f
+
+      -- a byte that neither ends the cell nor leaves the layer empty
+      pub ask_found : (k ≡ Ends → ⊥) → (k ≡ Empty → ⊥) → Some (place r c l) ≡ answer
+      ask_found x y = ask_full k refl x y
 
     -- a spent cell
     module _ (b : 3 ≤ l) where
@@ -141,4 +150,4 @@ module _ {H : List (List (List ℕ))} {answer : Found} {r c l : ℕ} (a : Asking
             past = λ g. headed (spent_step H r c l b ∙ last_step H r (c + 1) (omega arith) (omega arith));
           }
 
-pub ruleset asking = (ask_begins, ask_nothing, ask_ended, ask_skips, ask_identity, ask_permutation, ask_cell, ask_row, rules)
+pub ruleset asking = (ask_begins, ask_nothing, ask_ended, ask_skips, ask_found, ask_cell, ask_row, rules)

@@ -5,17 +5,17 @@ use native.Mathlib.Omega.{arith}
 use mir.Syntax.{w64}
 use mir.Val.{Fits}
 use Rattle.codes.specs.declared.CodeParams.{CodeParams}
-use Rattle.codes.specs.declared.ParamsAnswer.{ParamsAnswer}
+use Rattle.std.specs.Prelude.{Ok}
 use Rattle.codes.specs.Codes.{row_of, params_of, max_bits, max_checks}
 use Rattle.codes.specs.Sound.{Bounded}
-use Rattle.codes.proofs.Codes.{bounded}
+use Rattle.codes.proofs.Codes.{bounded, asked_known}
 
 -- the row of a code, and the row that `params` answered
 pub row_bounded : (code : ℕ) (row : CodeParams) → row ≡ row_of code → Bounded row
 row_bounded code row is = rw is (bounded code)
 
-pub answer_bounded : (code : ℕ) (p : ParamsAnswer) → p ≡ params_of code → Bounded p.row
-answer_bounded code p e = rw e (bounded code)
+pub answer_bounded : (code : ℕ) (row : CodeParams) → Ok row ≡ params_of code → Bounded row
+answer_bounded code row e = row_bounded code row (asked_known code e).1
 
 module _ (row : CodeParams) (b : Bounded row) where
   pub bits_few : row.n + row.punctured_bits ≤ max_bits

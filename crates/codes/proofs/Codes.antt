@@ -11,12 +11,17 @@ use Rattle.maths.specs.Tests.{pick, all, below}
 use Rattle.maths.proofs.Tests.{all_anywhere, below_at, below_eq}
 use Rattle.maths.proofs.Lists.{span_length, flat_map_length}
 use Rattle.codes.specs.declared.CodeParams.{CodeParams}
-use Rattle.codes.specs.declared.ParamsAnswer.{ParamsAnswer}
+use Rattle.std.specs.Prelude.{Ok, Err}
+use Rattle.codes.specs.declared.Code.{Code}
+use Rattle.codes.specs.declared.Code.TheVariants.{TC128}
+use Rattle.std.proofs.Common.{rules}
+use Rattle.codes.specs.declared.refusal.Refusal.{Refusal}
+use Rattle.codes.specs.declared.refusal.Refusal.TheVariants.{UnknownCode}
 use Rattle.codes.specs.declared.parity_iter.Block.{Block}
 use Rattle.codes.specs.declared.parity_iter.Block.TheVariants.{Ends, Empty, Identity, Permutation}
 use Rattle.tables.specs.Choice.{listed}
 use Rattle.tables.specs.Tables.{prototypes}
-use Rattle.codes.specs.Codes.{codes, Known, known, params_of, tc_codes, TC, TM, rows, row, row_of, bits_in, checks_in, circulant_of, tables, tables_of, matrix_of, prototype_of, max_block, max_sent, max_sent_bytes, max_bits, max_bytes, max_checks, max_soft_working, max_signs}
+use Rattle.codes.specs.Codes.{codes, all_codes, code_at, Known, known, params_of, tc_codes, TC, TM, rows, row, row_of, bits_in, checks_in, circulant_of, tables, tables_of, matrix_of, prototype_of, max_block, max_sent, max_sent_bytes, max_bits, max_bytes, max_checks, max_soft_working, max_signs}
 use Rattle.codes.specs.Blocks.{byte_at, block_of, cell_blocks, row_blocks, last_rows}
 use Rattle.codes.specs.Edges.{edge_at, block_edges, blocks_of, edges}
 use Rattle.codes.specs.Sound.{BlockSize, Small, Bounded, Roomy}
@@ -146,18 +151,34 @@ edge_count code h =
     ∙ block_count code h
 
 -- ---- what was asked by `params`
-module _ (code : ℕ) {p : ParamsAnswer} (e : p ≡ params_of code) where
-  -- a code whose parameters are refused, and one whose parameters are not
-  pub asked_unknown : (p.answer ≡ 0 → ⊥) → (known code ≡ false) × (p.answer ≡ 1)
-  asked_unknown h = go (known code) refl
-    where
-      go : (b : Bool) → known code ≡ b → (known code ≡ false) × (p.answer ≡ 1)
-      go true k = absurd (h (rw (e, k)))
-      go false k = (k, rw (e, k))
+module _ (code : ℕ) where
+  asked_by : (b : Bool) {row : CodeParams} → known code ≡ b → Ok row ≡ pick b (Ok (row_of code)) (Err UnknownCode) → Known code × (row ≡ row_of code)
+  asked_by true k e = (ltb-true code codes k, search (rules, e))
+  asked_by false k e = search (rules, e)
 
-  pub asked_known : p.answer ≡ 0 → Known code
-  asked_known h = go (known code) refl
-    where
-      go : (b : Bool) → known code ≡ b → Known code
-      go true k = ltb-true code codes k
-      go false k = absurd (let z : p.answer ≡ 1 = rw (e, k) in omega arith)
+  -- a code whose parameters are not refused, and one whose parameters are
+  pub asked_known : {row : CodeParams} → Ok row ≡ params_of code → Known code × (row ≡ row_of code)
+  asked_known e = asked_by (known code) refl e
+
+  unasked_by : (b : Bool) {why : Refusal} → Err why ≡ pick b (Ok (row_of code)) (Err UnknownCode) → (b ≡ false) × (why ≡ UnknownCode)
+  unasked_by true e = search (rules, e)
+  unasked_by false e = (refl, search (rules, e))
+
+  pub asked_unknown : {why : Refusal} → Err why ≡ params_of code → (known code ≡ false) × (why ≡ UnknownCode)
+  asked_unknown e = unasked_by (known code) e
+
+-- ---- what a number says of the code
+module _ (n : ℕ) where
+  known_by : (b : Bool) {code : Code} → Ok code ≡ pick b (Ok (get_or all_codes n TC128)) (Err UnknownCode) → b ≡ true
+  known_by true e = refl
+  known_by false e = search (rules, e)
+
+  pub code_known : {code : Code} → Ok code ≡ code_at n → known n ≡ true
+  code_known e = known_by (known n) e
+
+  unknown_by : (b : Bool) {why : Refusal} → Err why ≡ pick b (Ok (get_or all_codes n TC128)) (Err UnknownCode) → (b ≡ false) × (why ≡ UnknownCode)
+  unknown_by true e = search (rules, e)
+  unknown_by false e = (refl, search (rules, e))
+
+  pub code_unknown : {why : Refusal} → Err why ≡ code_at n → (known n ≡ false) × (why ≡ UnknownCode)
+  code_unknown e = unknown_by (known n) e

@@ -5,3 +5,4 @@ pub mod Bounds
 pub mod Columns
 pub mod Walk
 pub mod Remaining
+pub mod Rows

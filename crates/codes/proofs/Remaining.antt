@@ -1,6 +1,6 @@
 -- What a walk has left: a new walk has all edges of its code, and a step takes the first one off. Assumes nothing.
 --     begin     remaining (new_of code) ≡ edges code
---     unroll    remaining w ≡ after (step_of w)
+--     unroll    remaining w ≡ after (step_of w) (moved w)
 use mathlib.Core.Bool.{Bool, true, false}
 use mathlib.Core.Path.{◌≡◌, refl, sym, ap, ◌∙◌, subst}
 use mathlib.Core.List.{List, [], ◌∷◌, ◌++◌, flat_map, append_assoc}
@@ -8,18 +8,18 @@ use Prim.Native.Nat.{ℕ, zero, suc, ◌+◌, ◌-◌, ◌≤◌, ◌<◌}
 use native.Mathlib.Nat.{sub-zero}
 use native.Mathlib.Numerals.{add-one}
 use native.Mathlib.Omega.{arith}
-use lib.Dec.{T, ltb, ltb→lt}
+use lib.Dec.{T, ltb}
 use borrow.Author.Tests.{lt-ltb, ltb-true, ltb-false}
 use Rattle.maths.specs.Tests.{pick}
 use Rattle.maths.specs.Lists.{span}
-use Rattle.maths.proofs.Tests.{both_left, both_right}
 use Rattle.maths.proofs.Lists.{span_first, span_none}
 use Rattle.codes.specs.declared.parity_iter.Place.{Place}
 use Rattle.codes.specs.declared.parity_iter.ParityIter.{ParityIter}
-use Rattle.codes.specs.declared.parity_iter.Found.TheVariants.{At}
+use Rattle.std.specs.Prelude.{Option, Some}
 use Rattle.codes.specs.declared.parity_iter.Block.{Block}
 use Rattle.codes.specs.declared.parity_iter.Block.TheVariants.{Ends, Empty, Identity, Permutation}
-use Rattle.codes.specs.declared.parity_iter.Step.{Step}
+use Rattle.codes.specs.declared.parity_iter.Check.{Check}
+use Rattle.codes.specs.declared.parity_iter.Bit.{Bit}
 use Rattle.codes.specs.Codes.{Known, known, matrix_of, prototype_of, codes}
 use Rattle.codes.specs.Blocks.{
   byte_at,
@@ -36,23 +36,9 @@ use Rattle.codes.specs.Blocks.{
   head_of,
 }
 use Rattle.codes.specs.Edges.{Edge, edge_at, block_edges, blocks_of, edges}
-use Rattle.codes.specs.Walk.{
-  matrix,
-  place_of,
-  later,
-  solid,
-  stands,
-  Inside,
-  remaining,
-  start_at,
-  new_of,
-  next_of,
-  next_step,
-  step_of,
-  after,
-}
+use Rattle.codes.specs.Walk.{matrix, place_of, later, solid, stands, Inside, remaining, start_at, new_of, next_of, step_of, moved, after, Steps}
 use Rattle.codes.proofs.Codes.{sized}
-use Rattle.codes.proofs.Walk.{stands_at}
+use Rattle.codes.proofs.Walk.{stands_at, inside_of}
 
 -- a place of the prototype whose block has edges
 pub record Lies (H : List (List (List ℕ))) (p : Place) : Type 0 where
@@ -120,7 +106,7 @@ start_law : (code : ℕ) (ps : List Place) → Known code → Headed (prototype_
 unfolding remaining flat_map block_edges
 start_law code ps h (none e) = rw e (simp (lt-ltb code codes h))
 start_law code ps h (some p d e) =
-    let w : ParityIter = start_at code (At p) in
+    let w : ParityIter = start_at code (Some p) in
     let m = (sized code h).low in
     let i : Inside w =
     record { code_low = h; row_low = d.row_low; col_low = d.col_low; layer_low = d.layer_low; i_low = omega arith } in
@@ -135,20 +121,6 @@ begin_by code false e = rw e
 pub begin : (code : ℕ) → remaining (new_of code) ≡ edges code
 unfolding new_of edges blocks_of
 begin code = begin_by code (known code) refl
-
-pub inside_of : (w : ParityIter) → T (stands w) → Inside w
-inside_of w t =
-    let a = both_right (known w.code) _ t in
-    let b = both_right (ltb w.row 4) _ a in
-    let c = both_right (ltb w.col 11) _ b in
-    let d = both_right (ltb w.layer 3) _ c in
-    record {
-      code_low = ltb→lt w.code codes (both_left (known w.code) _ t);
-      row_low = ltb→lt w.row 4 (both_left (ltb w.row 4) _ a);
-      col_low = ltb→lt w.col 11 (both_left (ltb w.col 11) _ b);
-      layer_low = ltb→lt w.layer 3 (both_left (ltb w.layer 3) _ c);
-      i_low = ltb→lt w.i _ (both_left (ltb w.i _) _ d);
-    }
 
 -- the edge at which the walk stands, and the rest of its block
 here : (w : ParityIter) → Inside w
@@ -180,8 +152,8 @@ next_by w h f false e =
     rw (span_none (edge_at (matrix w) (place_of w)) (w.i + 1) ((matrix w).size - (w.i + 1)) z)
     (start_law w.code (later w) h.code_low (headed_from _ _ _ _ h.row_low h.col_low))
 
-unroll_by : (w : ParityIter) (b : Bool) → stands w ≡ b → remaining w ≡ after (step_of w)
-unfolding remaining step_of next_step next_of edge_at
+unroll_by : (w : ParityIter) (b : Bool) → stands w ≡ b → remaining w ≡ after (step_of w) (moved w)
+unfolding remaining step_of moved next_of edge_at
 unroll_by w false e = rw e
 unroll_by w true e =
     let h = inside_of w (subst T (sym e) tt) in
@@ -191,9 +163,9 @@ unroll_by w true e =
     ∙ ap (λ (l : List Edge). edge_at (matrix w) (place_of w) w.i ∷ l) (sym (next_by w h f (ltb (w.i + 1) (matrix w).size) refl)))
 
 -- what remains of a walk is the edge of its step, followed by what remains of the next walk
-pub unroll : (w : ParityIter) → remaining w ≡ after (step_of w)
+pub unroll : (w : ParityIter) → remaining w ≡ after (step_of w) (moved w)
 unroll w = unroll_by w (stands w) refl
 
--- the promise of `step`, by the step that it answers
-pub stepped : (w : ParityIter) (s : Step) → s ≡ step_of w → (s ≡ step_of w) × (after s ≡ remaining w)
-stepped w s e = (e, ap after e ∙ sym (unroll w))
+-- the promise of `next`, by what it answers and leaves
+pub stepped : (w : ParityIter) (r : Option (Check × Bit)) (w' : ParityIter) → r ≡ step_of w → w' ≡ moved w → Steps w r w'
+stepped w r w' e f = record { answers = e; moves = f; leaves = rw (e, f) (sym (unroll w)) }

@@ -1,5 +1,7 @@
 -- The numbers by which the library answers. Assumes nothing.
-use Rattle.std.specs.Prelude.{Bool, not, List, [], ◌∷◌, ℕ, ◌≤◌, eqb, ltb}
+use Rattle.std.specs.Prelude.{Bool, not, List, [], ◌∷◌, ℕ, ◌≤◌, eqb, ltb, Result, Ok, Err, ⊤}
+use Rattle.codes.specs.declared.refusal.Refusal.{Refusal}
+use Rattle.codes.specs.declared.refusal.Refusal.TheVariants.{UnknownCode, WrongRead, WrongWritten, WrongWorking, WrongSigns, LimitTooLarge}
 use Rattle.maths.specs.Tests.{pick}
 
 -- a test that a call can fail, and the number that it is then refused by
@@ -15,9 +17,23 @@ abbrev pub first_of : List Test → ℕ
 first_of [] = 0
 first_of (t ∷ ts) = pick t.fails t.number (first_of ts)
 
--- a further test: an answer that is not 0 stays
-unfoldable pub or_test : ℕ → Test → ℕ
-or_test answer t = pick (eqb answer 0) (pick t.fails t.number 0) answer
+-- the number of each test
+abbrev pub number : Refusal → ℕ
+number UnknownCode = 1
+number WrongRead = 2
+number WrongWritten = 3
+number WrongWorking = 4
+number WrongSigns = 5
+number LimitTooLarge = 6
+
+-- the number by which a call answers
+abbrev pub answer_of : {A : Type 0} → Result A Refusal → ℕ
+answer_of (Ok x) = 0
+answer_of (Err why) = number why
+
+-- one test of a call: it goes on, or is refused
+abbrev pub checked : Bool → Refusal → Result ⊤ Refusal
+checked fails why = pick fails (Err why) (Ok tt)
 
 -- a length that is not the one asked for
 abbrev pub unlike : ℕ → ℕ → Bool

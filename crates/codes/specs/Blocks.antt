@@ -1,9 +1,7 @@
 -- The blocks of a prototype, in the order of the walk. Assumes nothing.
-use Rattle.std.specs.Prelude.{List, [], ◌∷◌, ◌++◌, ℕ, zero, suc, ◌+◌, ◌-◌, ◌%◌, ltb, eqb, get_or}
+use Rattle.std.specs.Prelude.{List, [], ◌∷◌, ◌++◌, ℕ, zero, suc, ◌+◌, ◌-◌, ◌%◌, ltb, eqb, get_or, Option, Some, None}
 use Rattle.maths.specs.Tests.{pick, both}
 use Rattle.codes.specs.declared.parity_iter.Place.{Place}
-use Rattle.codes.specs.declared.parity_iter.Found.{Found}
-use Rattle.codes.specs.declared.parity_iter.Found.TheVariants.{At, Nothing}
 use Rattle.codes.specs.declared.parity_iter.Block.{Block}
 use Rattle.codes.specs.declared.parity_iter.Block.TheVariants.{Ends, Empty, Identity, Permutation}
 
@@ -57,18 +55,18 @@ module _ (H : List (List (List ℕ))) where
   blocks_from r c l = cell_blocks r c (3 - l) ++ cells_from r (c + 1)
 
   -- the blocks from a found one on
-  abbrev pub rest_of : Found → List Place
-  rest_of (At p) = p ∷ blocks_from p.row p.col (p.layer + 1)
-  rest_of Nothing = []
+  abbrev pub rest_of : Option Place → List Place
+  rest_of (Some p) = p ∷ blocks_from p.row p.col (p.layer + 1)
+  rest_of None = []
 
   abbrev pub block_at : Place → Block
   block_at p = block_of (byte_at H p.layer p.row p.col)
 
 -- the first of a list of blocks
-abbrev pub head_of : List Place → Found
-head_of [] = Nothing
-head_of (p ∷ ps) = At p
+abbrev pub head_of : List Place → Option Place
+head_of [] = None
+head_of (p ∷ ps) = Some p
 
 -- the next block after a place of a prototype; none where it is no place
-abbrev pub next_block : List (List (List ℕ)) → Place → Found
-next_block H p = pick (both (ltb p.row 4) (both (ltb p.col 11) (ltb p.layer 3))) (head_of (blocks_from H p.row p.col (p.layer + 1))) Nothing
+abbrev pub next_block : List (List (List ℕ)) → Place → Option Place
+next_block H p = pick (both (ltb p.row 4) (both (ltb p.col 11) (ltb p.layer 3))) (head_of (blocks_from H p.row p.col (p.layer + 1))) None

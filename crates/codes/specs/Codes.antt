@@ -1,9 +1,12 @@
 -- The codes by number: their parameters, and the tables that their matrices and generators are made of. Assumes nothing.
-use Rattle.std.specs.Prelude.{Bool, not, List, [], ◌∷◌, ℕ, ◌+◌, ◌-◌, ◌*◌, ◌/◌, ◌≤◌, ◌<◌, ltb, get_or}
+use Rattle.std.specs.Prelude.{Bool, List, [], ◌∷◌, ℕ, ◌+◌, ◌-◌, ◌*◌, ◌/◌, ◌≤◌, ◌<◌, ltb, get_or, Result, Ok, Err}
+use Rattle.maths.specs.Tests.{pick}
+use Rattle.codes.specs.declared.Code.{Code}
+use Rattle.codes.specs.declared.Code.TheVariants.{TC128, TC256, TC512, TM1280, TM1536, TM2048, TM5120, TM6144, TM8192}
+use Rattle.codes.specs.declared.refusal.Refusal.{Refusal}
+use Rattle.codes.specs.declared.refusal.Refusal.TheVariants.{UnknownCode}
 use Rattle.codes.specs.declared.CodeParams.{CodeParams}
 use Rattle.codes.specs.declared.MatrixTables.{MatrixTables}
-use Rattle.codes.specs.declared.ParamsAnswer.{ParamsAnswer}
-use Rattle.codes.specs.Answers.{test, first_of}
 use Rattle.tables.specs.Choice.{table_at}
 use Rattle.tables.specs.Tables.{prototypes, thetas, phis}
 use Rattle.tables.specs.Words.{generators}
@@ -17,6 +20,24 @@ Known code = code < codes
 
 abbrev pub known : ℕ → Bool
 known code = ltb code codes
+
+-- the number of a code, and the code of a number
+abbrev pub number_of : Code → ℕ
+number_of TC128 = 0
+number_of TC256 = 1
+number_of TC512 = 2
+number_of TM1280 = 3
+number_of TM1536 = 4
+number_of TM2048 = 5
+number_of TM5120 = 6
+number_of TM6144 = 7
+number_of TM8192 = 8
+
+abbrev pub all_codes : List Code
+all_codes = TC128 ∷ TC256 ∷ TC512 ∷ TM1280 ∷ TM1536 ∷ TM2048 ∷ TM5120 ∷ TM6144 ∷ TM8192 ∷ []
+
+abbrev pub code_at : ℕ → Result Code Refusal
+code_at n = pick (known n) (Ok (get_or all_codes n TC128)) (Err UnknownCode)
 
 -- TC128, TC256 and TC512, of which every bit is sent, stand first
 abbrev pub tc_codes : ℕ
@@ -45,6 +66,12 @@ row n k p m b e =
       output_len = (n + p) / 8;
     }
 
+-- its ten numbers in the order of the fields
+abbrev pub numbers : CodeParams → List ℕ
+numbers p =
+    p.n ∷ p.k ∷ p.punctured_bits ∷ p.submatrix_size ∷ p.circulant_size ∷ p.paritycheck_sum ∷
+    p.decode_bf_working_len ∷ p.decode_ms_working_len ∷ p.decode_ms_working_u8_len ∷ p.output_len ∷ []
+
 unfoldable pub rows : List CodeParams
 rows =
     row 128 64 0 16 16 512 ∷
@@ -62,9 +89,9 @@ rows =
 abbrev pub row_of : ℕ → CodeParams
 row_of code = get_or rows code (row 0 0 0 0 0 0)
 
--- "Parameters asked for an unknown code are 1 with zeros"
-abbrev pub params_of : ℕ → ParamsAnswer
-params_of code = record { answer = first_of (test (not (known code)) 1 ∷ []); row = row_of code }
+-- "Parameters asked for an unknown code are 1 with zeros": refused, and the zeros are `row_of`'s
+abbrev pub params_of : ℕ → Result CodeParams Refusal
+params_of code = pick (known code) (Ok (row_of code)) (Err UnknownCode)
 
 -- no code has larger blocks, more bits sent, more bits in all or more checks, or asks for longer buffers
 abbrev pub max_block : ℕ

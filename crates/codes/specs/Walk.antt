@@ -1,18 +1,16 @@
 -- A walk over the edges of a code, held by value. It stands at an edge; where its numbers are no edge's, it is finished. Assumes nothing.
-use Rattle.std.specs.Prelude.{Bool, true, false, not, ℕ, ◌+◌, ◌-◌, ◌*◌, ◌<◌, ltb}
+use Rattle.std.specs.Prelude.{◌≡◌, Bool, true, false, ℕ, ◌+◌, ◌-◌, ◌*◌, ◌<◌, ltb, Option, Some, None, Result, Ok, Err}
 use mathlib.Core.List.{List, [], ◌∷◌, ◌++◌, flat_map}
 use Rattle.maths.specs.Tests.{pick, both}
 use Rattle.maths.specs.Lists.{span}
+use Rattle.codes.specs.declared.refusal.Refusal.{Refusal}
+use Rattle.codes.specs.declared.refusal.Refusal.TheVariants.{UnknownCode}
+use Rattle.codes.specs.declared.parity_iter.Check.{Check}
+use Rattle.codes.specs.declared.parity_iter.Bit.{Bit}
 use Rattle.codes.specs.declared.parity_iter.Place.{Place}
 use Rattle.codes.specs.declared.parity_iter.ParityIter.{ParityIter}
-use Rattle.codes.specs.declared.parity_iter.Found.{Found}
-use Rattle.codes.specs.declared.parity_iter.Found.TheVariants.{At, Nothing}
 use Rattle.codes.specs.declared.parity_iter.Block.{Block}
 use Rattle.codes.specs.declared.parity_iter.Block.TheVariants.{Ends, Empty, Identity, Permutation}
-use Rattle.codes.specs.declared.parity_iter.Step.{Step}
-use Rattle.codes.specs.declared.parity_iter.Step.TheVariants.{Next, Finished}
-use Rattle.codes.specs.declared.parity_iter.Begun.{Begun}
-use Rattle.codes.specs.Answers.{test, first_of}
 use Rattle.codes.specs.Codes.{known, Known, Matrix, matrix_of}
 use Rattle.codes.specs.Blocks.{place, block_at, blocks_from, head_of}
 use Rattle.codes.specs.Edges.{Edge, edge, column_of, edge_at, block_edges, blocks_of}
@@ -56,16 +54,16 @@ remaining w =
     pick (stands w) (span (edge_at (matrix w) (place_of w)) w.i ((matrix w).size - w.i) ++ flat_map (block_edges (matrix w)) (later w)) []
 
 -- the walk at the first row of a block, or the finished walk
-abbrev pub start_at : ℕ → Found → ParityIter
-start_at code (At p) = record { code = code; row = p.row; col = p.col; layer = p.layer; i = 0 }
-start_at code Nothing = record { code = code; row = 4; col = 0; layer = 0; i = 0 }
+abbrev pub start_at : ℕ → Option Place → ParityIter
+start_at code (Some p) = record { code = code; row = p.row; col = p.col; layer = p.layer; i = 0 }
+start_at code None = record { code = code; row = 4; col = 0; layer = 0; i = 0 }
 
 unfoldable pub new_of : ℕ → ParityIter
 new_of code = start_at code (head_of (blocks_of code))
 
--- the answer to asking for a code's walk: "its walk is 1 and finished" where the code is not known
-abbrev pub begun_of : ℕ → Begun
-begun_of code = record { answer = first_of (test (not (known code)) 1 ∷ []); walk = new_of code }
+-- the answer to asking for a code's walk: "its walk is 1 and finished" where the code is not known, that is, there is none
+abbrev pub begun_of : ℕ → Result ParityIter Refusal
+begun_of code = pick (known code) (Ok (new_of code)) (Err UnknownCode)
 
 -- the walk after the edge at which a walk stands
 unfoldable pub next_of : ParityIter → ParityIter
@@ -74,17 +72,30 @@ next_of w =
     (record { code = w.code; row = w.row; col = w.col; layer = w.layer; i = w.i + 1 })
     (start_at w.code (head_of (later w)))
 
--- the step of a walk that stands in column x of its block
-unfoldable pub next_step : ParityIter → ℕ → Step
-next_step w x =
-    Next (record { 0 = w.row * (matrix w).size + w.i }) (record { 0 = w.col * (matrix w).size + x }) (next_of w)
+-- the size of its blocks and the column of the edge at which a walk stands, or that it stands at none
+unfoldable pub column_at : ParityIter → Option (ℕ × ℕ)
+column_at w =
+    pick (stands w) (Some ((matrix w).size, column_of (matrix w) (block_at (matrix w).prototype (place_of w)) w.i)) None
 
--- one step of a walk
-unfoldable pub step_of : ParityIter → Step
+-- the edge of a walk that stands in column x of its block
+abbrev pub edge_in : ParityIter → ℕ → Check × Bit
+edge_in w x = (record { 0 = w.row * (matrix w).size + w.i }, record { 0 = w.col * (matrix w).size + x })
+
+-- one step of a walk: the edge at which it stands, or that it stands at none, and the walk afterwards, which stays where it is finished
+unfoldable pub step_of : ParityIter → Option (Check × Bit)
 step_of w =
-    pick (stands w) (next_step w (column_of (matrix w) (block_at (matrix w).prototype (place_of w)) w.i)) Finished
+    pick (stands w) (Some (edge_in w (column_of (matrix w) (block_at (matrix w).prototype (place_of w)) w.i))) None
+
+unfoldable pub moved : ParityIter → ParityIter
+moved w = pick (stands w) (next_of w) w
 
 -- what a step says of the edges: an edge and those that the next walk has left, or none
-abbrev pub after : Step → List Edge
-after (Next c b w) = edge c.0 b.0 ∷ remaining w
-after Finished = []
+abbrev pub after : Option (Check × Bit) → ParityIter → List Edge
+after (Some e) w = edge e.0.0 e.1.0 ∷ remaining w
+after None w = []
+
+-- a call of `next`: what it answers, the walk that it leaves, and that the edges are those that were left
+pub record Steps (w : ParityIter) (r : Option (Check × Bit)) (w' : ParityIter) : Type 0 where
+  pub answers : r ≡ step_of w
+  pub moves : w' ≡ moved w
+  pub leaves : after r w' ≡ remaining w

@@ -1,37 +1,32 @@
 // The walk over the edges of a parity check matrix, by value. (Rust: ParityIter and iter_paritychecks of codes/mod.rs)
 ghost use Rattle.std.specs.Prelude.{◌≡◌, [], ◌<◌, ◌≤◌, ◌%◌};
+ghost use Rattle.std.specs.Iterator.{item_count};
 ghost use Rattle.codes.specs.Codes.{made, max_block};
 ghost use Rattle.codes.specs.Blocks.{block_of, blocks, blocks_from, head_of, next_block};
 ghost use Rattle.codes.specs.Edges.{identity_column, permutation_column};
-ghost use Rattle.codes.specs.Walk.{Inside, matrix, remaining, start_at, begun_of, next_of, next_step, step_of, after};
+ghost use Rattle.codes.specs.Walk.{Inside, matrix, remaining, start_at, begun_of, next_of, column_at, Steps};
 
-use crate::{ACCEPTED, CODES, UNKNOWN_CODE, phi_of, prototype_of, row_of};
+use crate::refusal::Refusal;
+use crate::{Code, CodeParams, params, phi_of, prototype_of};
 use tables::compact_parity_checks::THETA_K;
 
 // The number of a check, and the number of a bit: two types, so that neither can be used as the other.
-#[derive(Clone, Copy)]
+#[derive(Clone, Copy, Debug, PartialEq, Eq)]
 pub struct Check(pub usize);
 
-#[derive(Clone, Copy)]
+#[derive(Clone, Copy, Debug, PartialEq, Eq)]
 pub struct Bit(pub usize);
 
 // A block of a prototype: a layer of a cell.
-#[derive(Clone, Copy)]
+#[derive(Clone, Copy, Debug, PartialEq, Eq)]
 pub struct Place {
     pub row: usize,
     pub col: usize,
     pub layer: usize,
 }
 
-// The next block that has edges.
-#[derive(Clone, Copy)]
-pub enum Found {
-    At(Place),
-    Nothing,
-}
-
 // What a prototype byte says: no more layers, no edges, an identity turned by a value, or a permutation.
-#[derive(Clone, Copy)]
+#[derive(Clone, Copy, Debug, PartialEq, Eq)]
 pub enum Block {
     Ends,
     Empty,
@@ -39,44 +34,41 @@ pub enum Block {
     Permutation(usize),
 }
 
-pub fn block_of(byte: u8) -> Block
-    ensures { result ≡ block_of byte }
-{
-    match byte {
-        0..=63 => { if byte == 0 { Block::Ends } else { Block::Empty } }
-        64..=127 => Block::Identity((byte % 64) as usize),
-        128..=191 => Block::Permutation((byte % 64) as usize),
-        192..=255 => Block::Empty,
+impl From<u8> for Block {
+    ghost from_gives = { λ byte b. b ≡ block_of byte };
+
+    fn from(byte: u8) -> Self {
+        match byte {
+            0 => Block::Ends,
+            1..=63 => Block::Empty,
+            64..=127 => Block::Identity(usize::from(byte % 64)),
+            128..=191 => Block::Permutation(usize::from(byte % 64)),
+            192..=255 => Block::Empty,
+        }
     }
 }
 
 // The first block from a layer of a cell on. A layer that has edges is the answer, one without asks the next; after the last of them, or the
 // byte 0, the next cell is asked, past the last column the next row's first.
-fn block_from(h: &[[[u8; 11]; 4]; 3], row: usize, col: usize, l: usize) -> Found
-    requires { (row < 4) × (col < 11) }
-    ensures { result ≡ head_of (blocks_from h.now row col l) }
+// Three counters that go on from anywhere: loops one in the other would each have to begin twice, at the place and at 0.
+fn block_from(h: &[[[u8; 11]; 4]; 3], from: Place) -> Option<Place>
+    requires { (from.row < 4) × (from.col < 11) }
+    ensures { result ≡ head_of (blocks_from h.now from.row from.col from.layer) }
 {
-    let mut row = row;
-    let mut col = col;
-    let mut l = l;
+    let Place {
+        mut row,
+        mut col,
+        mut layer,
+    } = from;
     while row < 4 {
-        if l < 3 {
-            match block_of(h[l][row][col]) {
-                Block::Ends => {
-                    l = 3;
-                }
-                Block::Empty => {
-                    l += 1;
-                }
-                Block::Identity(_) => {
-                    return Found::At(Place { row, col, layer: l });
-                }
-                Block::Permutation(_) => {
-                    return Found::At(Place { row, col, layer: l });
-                }
+        if layer < 3 {
+            match Block::from(h[layer][row][col]) {
+                Block::Ends => layer = 3,
+                Block::Empty => layer += 1,
+                _ => return Some(Place { row, col, layer }),
             }
         } else {
-            l = 0;
+            layer = 0;
             col += 1;
             if col == 11 {
                 col = 0;
@@ -84,29 +76,36 @@ fn block_from(h: &[[[u8; 11]; 4]; 3], row: usize, col: usize, l: usize) -> Found
             }
         }
     }
-    Found::Nothing
+    None
 }
 
 // The first block of a prototype, and the next one after a place; none where that is no place of a prototype.
-pub fn first_block(h: &[[[u8; 11]; 4]; 3]) -> Found
+pub fn first_block(h: &[[[u8; 11]; 4]; 3]) -> Option<Place>
     ensures { result ≡ head_of (blocks h.now) }
 {
-    block_from(h, 0, 0, 0)
+    block_from(
+        h,
+        Place {
+            row: 0,
+            col: 0,
+            layer: 0,
+        },
+    )
 }
 
-pub fn next_block(h: &[[[u8; 11]; 4]; 3], p: Place) -> Found
+pub fn next_block(h: &[[[u8; 11]; 4]; 3], p: Place) -> Option<Place>
     ensures { result ≡ next_block h.now p }
 {
-    if p.row >= 4 {
-        return Found::Nothing;
+    if p.row >= 4 || p.col >= 11 || p.layer >= 3 {
+        return None;
     }
-    if p.col >= 11 {
-        return Found::Nothing;
-    }
-    if p.layer >= 3 {
-        return Found::Nothing;
-    }
-    block_from(h, p.row, p.col, p.layer + 1)
+    block_from(
+        h,
+        Place {
+            layer: p.layer + 1,
+            ..p
+        },
+    )
 }
 
 fn identity_column(m: usize, v: usize, i: usize) -> usize
@@ -122,23 +121,11 @@ fn permutation_column(m: usize, theta: &[u8; 26], phi: &[[u16; 26]; 4], v: usize
 {
     let q = m / 4;
     let j = i / q;
-    q * ((byte(theta[v]) + j) % 4) + (wide(phi[j][v]) + i) % q
-}
-
-pub fn byte(x: u8) -> usize
-    ensures { (result ≡ x) × (result < 256) }
-{
-    x as usize
-}
-
-pub fn wide(x: u16) -> usize
-    ensures { (result ≡ x) × (result < 65536) }
-{
-    x as usize
+    q * ((usize::from(theta[v]) + j) % 4) + (usize::from(phi[j][v]) + i) % q
 }
 
 // A walk stands at an edge: row i of a block. Where its numbers are no edge's, it is finished.
-#[derive(Clone, Copy)]
+#[derive(Clone, Copy, Debug, PartialEq, Eq)]
 pub struct ParityIter {
     pub code: usize,
     pub row: usize,
@@ -147,130 +134,96 @@ pub struct ParityIter {
     pub i: usize,
 }
 
-#[derive(Clone, Copy)]
-pub enum Step {
-    Next(Check, Bit, ParityIter),
-    Finished,
-}
-
-// An answer, and the walk over the code's edges, finished where the code is refused.
-#[derive(Clone, Copy)]
-pub struct Begun {
-    pub answer: u8,
-    pub walk: ParityIter,
-}
-
-pub fn iter_paritychecks(code: usize) -> Begun
+// The walk over a code's edges.
+pub fn iter_paritychecks(code: usize) -> Result<ParityIter, Refusal>
     ensures { result ≡ begun_of code }
 {
-    if code < CODES {
-        let h = prototype_of(code);
-        Begun {
-            answer: ACCEPTED,
-            walk: start_at(code, first_block(&h)),
-        }
-    } else {
-        Begun {
-            answer: UNKNOWN_CODE,
-            walk: start_at(code, Found::Nothing),
-        }
-    }
+    Code::try_from(code)?;
+    let h = prototype_of(code);
+    Ok(start_at(code, first_block(&h)))
 }
 
 // The walk at a block's first row, or the finished walk.
-fn start_at(code: usize, f: Found) -> ParityIter
-    ensures { result ≡ start_at code f }
+fn start_at(code: usize, found: Option<Place>) -> ParityIter
+    ensures { result ≡ start_at code found }
 {
-    match f {
-        Found::At(p) => ParityIter {
-            code,
-            row: p.row,
-            col: p.col,
-            layer: p.layer,
-            i: 0,
-        },
-        Found::Nothing => ParityIter {
-            code,
-            row: 4,
-            col: 0,
-            layer: 0,
-            i: 0,
-        },
+    let Place { row, col, layer } = found.unwrap_or(Place {
+        row: 4,
+        col: 0,
+        layer: 0,
+    });
+    ParityIter {
+        code,
+        row,
+        col,
+        layer,
+        i: 0,
     }
 }
 
 impl ParityIter {
     // The walk after this edge, in blocks of the size m.
-    fn next(self, m: usize) -> ParityIter
+    fn moved(self, m: usize) -> ParityIter
         requires { Inside self × (m ≡ (matrix self).size) }
         ensures { result ≡ next_of self }
     {
-        let code = self.code;
-        let row = self.row;
-        let col = self.col;
-        let l = self.layer;
-        let i = self.i + 1;
-        if i < m {
+        if self.i + 1 < m {
             ParityIter {
-                code,
-                row,
-                col,
-                layer: l,
-                i,
+                i: self.i + 1,
+                ..self
             }
         } else {
-            let h = prototype_of(code);
-            start_at(code, block_from(&h, row, col, l + 1))
+            let h = prototype_of(self.code);
+            let after = Place {
+                row: self.row,
+                col: self.col,
+                layer: self.layer + 1,
+            };
+            start_at(self.code, block_from(&h, after))
         }
     }
 
-    // The edge of this walk, in column x of its block.
-    fn edge(self, m: usize, x: usize) -> Step
-        requires { Inside self × ((m ≡ (matrix self).size) × (x < max_block)) }
-        ensures { result ≡ next_step self x }
+    // The size of its blocks, and the column of the edge at which it stands; none where its numbers are no edge's.
+    fn column(self) -> Option<(usize, usize)>
+        ensures { result ≡ column_at self }
     {
-        Step::Next(
-            Check(self.row * m + self.i),
-            Bit(self.col * m + x),
-            self.next(m),
-        )
+        let Ok(
+            CodeParams {
+                submatrix_size: m,
+                ..
+            },
+        ) = params(self.code)
+        else {
+            return None;
+        };
+        if self.row >= 4 || self.col >= 11 || self.layer >= 3 || self.i >= m {
+            return None;
+        }
+        let h = prototype_of(self.code);
+        match Block::from(h[self.layer][self.row][self.col]) {
+            Block::Ends => None,
+            Block::Empty => None,
+            Block::Identity(v) => Some((m, identity_column(m, v, self.i))),
+            Block::Permutation(v) => {
+                let phi = phi_of(self.code);
+                Some((m, permutation_column(m, &THETA_K, &phi, v, self.i)))
+            }
+        }
     }
+}
 
-    // One step: an edge and the walk after it, or that there is none. What it says of the edges is what this walk has left.
-    pub fn step(self) -> Step
-        ensures { (result ≡ step_of self) × (after result ≡ remaining self) }
-    {
-        let code = self.code;
-        let row = self.row;
-        let col = self.col;
-        let l = self.layer;
-        let i = self.i;
-        if code >= CODES {
-            return Step::Finished;
-        }
-        if row >= 4 {
-            return Step::Finished;
-        }
-        if col >= 11 {
-            return Step::Finished;
-        }
-        if l >= 3 {
-            return Step::Finished;
-        }
-        let m = row_of(code).submatrix_size;
-        if i >= m {
-            return Step::Finished;
-        }
-        let h = prototype_of(code);
-        let k = block_of(h[l][row][col]);
-        match k {
-            Block::Ends => Step::Finished,
-            Block::Empty => Step::Finished,
-            Block::Identity(v) => self.edge(m, identity_column(m, v, i)),
-            Block::Permutation(v) => self.edge(
-                m,
-                permutation_column(m, &THETA_K, &phi_of(code), v, i),
-            ),
-        }
+impl Iterator for ParityIter {
+    type Item = (Check, Bit);
+
+    ghost next_gives = { Steps };
+
+    ghost remaining = { item_count remaining };
+
+    // An edge, or that there is none; a finished walk stays so.
+    fn next(&mut self) -> Option<(Check, Bit)> {
+        let (m, x) = self.column()?;
+        let edge = (Check(self.row * m + self.i), Bit(self.col * m + x));
+        *self = self.moved(m);
+        Some(edge)
     }
 }

@@ -1,23 +1,25 @@
 -- The sizes of the codes' frames, and a frame of parity bits that is the code's. Assumes nothing.
-use mathlib.Core.List.{List, [], ◌++◌, append-nil}
-use mathlib.Core.Path.{◌≡◌, refl, sym, ap, ap₂, ◌∙◌}
-use Prim.Native.Nat.{ℕ, ◌+◌, ◌-◌, ◌*◌, ◌/◌, ◌%◌, ◌≤◌, ◌<◌}
+use mathlib.Core.List.{List, ◌++◌}
+use mathlib.Core.Path.{◌≡◌, refl, sym, ap, ◌∙◌}
+use Prim.Native.Nat.{ℕ, ◌+◌, ◌-◌, ◌*◌, ◌/◌}
 use native.Mathlib.Omega.{arith}
-use borrow.Author.Rules.{rules}
-use lib.ListN.{length, take, drop, drop_of_length-le}
+use Rattle.std.proofs.Common.{rules, lit<}
+use lib.ListN.{length, take}
 use Rattle.maths.specs.Lists.{span}
 use Rattle.maths.specs.Bits.{bit_at}
+use Rattle.maths.specs.Bytes.{pack}
 use Rattle.maths.proofs.Lists.{span_same}
-use Rattle.maths.proofs.Bytes.{bit_at_take}
 use Rattle.codes.specs.declared.CodeParams.{CodeParams}
+use Rattle.codes.specs.declared.Code.{Code}
+use Rattle.codes.specs.declared.Code.TheVariants.{TC128, TC256, TC512, TM1280, TM1536, TM2048, TM5120, TM6144, TM8192}
 use Rattle.tables.specs.Words.{generators}
-use Rattle.codes.specs.Codes.{codes, Known, rows, row_of, generator_of, circulant_of}
-use Rattle.codes.specs.Frames.{parity, generator, generator_bit, encoded_bytes}
+use Rattle.codes.specs.Codes.{codes, Known, rows, number_of, row_of, generator_of, circulant_of}
+use Rattle.codes.specs.Frames.{parity, generator_bit, encoded_bytes}
 use Rattle.codes.proofs.Codes.{roomy}
-use Rattle.encoder.specs.Rotation.{placed}
-use Rattle.encoder.specs.Sizes.{Accepted, Parts}
-use Rattle.encoder.proofs.Packed.{pack_ext}
-use Rattle.encoder.proofs.Staged.{parity_ext}
+use Rattle.encoder.specs.Rows.{words_bit, row_bit}
+use Rattle.encoder.specs.Sizes.{Parts}
+use Rattle.encoder.proofs.Fitting.{data_bits}
+use Rattle.encoder.proofs.Putting.{rows_generator}
 
 -- how many parity bits a code has
 abbrev parity_bits : ℕ → ℕ
@@ -40,35 +42,40 @@ parts code h s g e words =
       generator = words ∙ span_same (λ c. length (generator_of c)) (λ c. (row_of c).k / circulant_of c * (parity_bits c / 64)) codes refl code h;
     }
 
--- the parity bits placed behind the data are the frame
-pub placed_frame : (code : ℕ) → Known code → (s : List ℕ) → length s ≡ (row_of code).n / 8
-    → placed s ((row_of code).k / 8) (parity_bits code / 8) (parity (circulant_of code) (row_of code).k (generator code) (bit_at s))
-    ≡ encoded_bytes code (take ((row_of code).k / 8) s)
-unfolding placed encoded_bytes
-placed_frame code h s e =
-    let k8 = (row_of code).k / 8 in
-    let r8 = parity_bits code / 8 in
-    let rest : drop (k8 + r8) s ≡ [] = drop_of_length-le s {i = k8 + r8} (omega (arith, bytes_all code h)) in
-    ap₂ (λ (x y : List ℕ). take k8 s ++ (x ++ y))
-    (pack_ext _ _ r8 (λ j l. ap (λ (x : ℕ). x % 2) (parity_ext (circulant_of code) (row_of code).k (generator code) (bit_at s) (bit_at (take k8 s)) same j)))
-    rest
-    ∙ ap (λ (x : List ℕ). take k8 s ++ x) (append-nil _)
-  where
-    same : (i : ℕ) → i < (row_of code).k → bit_at s i ≡ bit_at (take ((row_of code).k / 8) s) i
-    same i l = sym (bit_at_take ((row_of code).k / 8) s i (omega (arith, (roomy code h).data_bytes)))
+-- the parity part of a frame whose data are m
+pub parity_parts : {s g m rows u : List ℕ} {k r b : ℕ} (part : ℕ) → Parts s g k r b → m ≡ take (k / 8) s → length m ≡ k / 8 → part ≡ r / 8
+    → rows ≡ pack (words_bit g) (length g * 8) → u ≡ pack (parity b (length m * 8) (row_bit part rows) (bit_at m)) part
+    → m ++ u ≡ take (k / 8) s ++ pack (parity b k (generator_bit (r / 64) g) (bit_at (take (k / 8) s))) (r / 8)
+parity_parts {s} {g} {m} {rows} {u} {k} {r} {b} part z front l n e f =
+    let bits : length m * 8 ≡ k = omega (arith, data_bits z) in
+    let made : u ≡ pack (parity b k (generator_bit (r / 64) g) (bit_at m)) (r / 8) =
+    f ∙ ap (λ (x : ℕ). pack (parity b (length m * 8) (row_bit x rows) (bit_at m)) x) n
+    ∙ ap (λ (G : ℕ → ℕ → ℕ). pack (parity b (length m * 8) G (bit_at m)) (r / 8)) (rows_generator g e r z.words)
+    ∙ ap (λ (x : ℕ). pack (parity b x (generator_bit (r / 64) g) (bit_at m)) (r / 8)) bits in
+    ap (λ (x : List ℕ). m ++ x) made ∙ ap (λ (x : List ℕ). x ++ pack (parity b k (generator_bit (r / 64) g) (bit_at x)) (r / 8)) front
 
-pub known_low : (code n : ℕ) (row : CodeParams) → Accepted code row n → row.k ≤ row.n
-known_low code n row a = rw a.is_row (roomy code a.known).k_low
+-- the number of a code is that of a known one
+pub number_known : (code : Code) → Known (number_of code)
+number_known TC128 = lit< tt
+number_known TC256 = lit< tt
+number_known TC512 = lit< tt
+number_known TM1280 = lit< tt
+number_known TM1536 = lit< tt
+number_known TM2048 = lit< tt
+number_known TM5120 = lit< tt
+number_known TM6144 = lit< tt
+number_known TM8192 = lit< tt
 
--- ---- a call with the row and the words of the code n
-module _ (code n : ℕ) (row : CodeParams) (s g : List ℕ) (is : code ≡ n) where
-  pub known_parts : length g ≡ length (generator_of n) → Accepted code row (length s) → Parts s g row.k (row.n - row.k) row.circulant_size
-  known_parts words a =
-      rw a.is_row (parts code a.known s g a.long (words ∙ ap (λ (c : ℕ). length (generator_of c)) (sym is)))
+-- ---- a call with the row and the words of the code v
+module _ (code v : Code) (row : CodeParams) (s g : List ℕ) (is : code ≡ v) (row_is : row ≡ row_of (number_of code)) (long : length s ≡ (row_of (number_of code)).n / 8) where
+  pub known_parts : length g ≡ length (generator_of (number_of v)) → Parts s g row.k (row.n - row.k) row.circulant_size
+  known_parts words =
+      rw row_is (parts (number_of code) (number_known code) s g long (words ∙ ap (λ (c : Code). length (generator_of (number_of c))) (sym is)))
 
   pub known_frame : {t : List ℕ}
-      → t ≡ placed s (row.k / 8) ((row.n - row.k) / 8) (parity row.circulant_size row.k (generator_bit ((row.n - row.k) / 64) g) (bit_at s))
-      → g ≡ generator_of n → Accepted code row (length s) → t ≡ encoded_bytes code (take ((row_of code).k / 8) s)
-  known_frame f words a = (rw (a.is_row, words, ← is) at f) ∙ placed_frame code a.known s a.long
+      → t ≡ take (row.k / 8) s ++ pack (parity row.circulant_size row.k (generator_bit ((row.n - row.k) / 64) g) (bit_at (take (row.k / 8) s))) ((row.n - row.k) / 8)
+      → g ≡ generator_of (number_of v) → t ≡ encoded_bytes (number_of code) (take ((row_of (number_of code)).k / 8) s)
+  unfolding encoded_bytes
+  known_frame f words = rw (row_is, words, ← is) at f
 
-pub ruleset framing = (known_low, known_parts, known_frame, rules)
+pub ruleset framing = (known_parts, known_frame, rules)

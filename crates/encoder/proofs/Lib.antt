@@ -1,5 +1,5 @@
 pub mod Packed
-pub mod Placed
+pub mod Grown
 pub mod Fitting
 pub mod Turning
 pub mod Blocks
@@ -7,7 +7,5 @@ pub mod Putting
 pub mod Adding
 pub mod Horner
 pub mod Staged
-pub mod Offsets
 pub mod Known
-pub mod Copying
 pub mod Answered

@@ -1,11 +1,13 @@
 -- What the steps of the encoder leave in the parity part. Assumes nothing.
-use Rattle.std.specs.Prelude.{List, ℕ, ◌+◌, ◌-◌, ◌*◌, ◌/◌, ◌%◌, ◌^◌, get_or}
+use Rattle.std.specs.Prelude.{List, ℕ, ◌+◌, ◌-◌, ◌*◌, ◌/◌, ◌%◌, ◌^◌, get_or, length}
 use Rattle.maths.specs.Sums.{sum_n}
-use Rattle.encoder.specs.Rotation.{placed, bits_from}
+use Rattle.maths.specs.Bits.{bit_at}
+use Rattle.maths.specs.Bytes.{pack}
+use Rattle.encoder.specs.Rotation.{bits_from}
 
--- "adds (mod 2)": the bits f are added to those of the len bytes from at on
-unfoldable pub added : List ℕ → ℕ → ℕ → (ℕ → ℕ) → List ℕ
-added s at len f = placed s at len (λ j. bits_from s at j + f j)
+-- "adds (mod 2)": the bits f are added to those of a byte string
+unfoldable pub added : List ℕ → (ℕ → ℕ) → List ℕ
+added s f = pack (λ j. bit_at s j + f j) (length s)
 
 -- the bits of a word, the highest first: "most significant byte first"
 abbrev pub word_bit : ℕ → ℕ → ℕ

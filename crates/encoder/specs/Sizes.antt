@@ -1,20 +1,14 @@
 -- How the parts of a frame and of a generator lie, as the functions over them ask it. Assumes nothing.
 use Rattle.std.specs.Prelude.{List, ◌≡◌, ℕ, ◌+◌, ◌*◌, ◌/◌, ◌^◌, ◌≤◌, ◌<◌, length}
-use Rattle.codes.specs.declared.CodeParams.{CodeParams}
-use Rattle.codes.specs.Codes.{Known, row_of}
 
--- a code that is known, its row, and a codeword as long as its frames
-pub record Accepted (code : ℕ) (row : CodeParams) (codeword : ℕ) : Type 0 where
-  pub known : Known code
-  pub is_row : row ≡ row_of code
-  pub long : codeword ≡ (row_of code).n / 8
-
--- rows of b data bits before byte at, the bytes of a row after it, and as many bytes in each row of the generator
-pub record Laid (s g : List ℕ) (at b rows len : ℕ) : Type 0 where
-  pub data_low : rows * b ≤ at * 8
-  pub parity_low : at + len ≤ length s
-  pub bytes_low : rows * len ≤ length g
-  pub fits : at * 8 < 2 ^ 64
+-- data and parity bytes in blocks of b bits, not none and whole bytes each, and a row of as many bytes as the parity for each block of data
+pub record Laid (message parity rows b : ℕ) : Type 0 where
+  pub some : 8 ≤ b
+  pub bytes : b ≡ b / 8 * 8
+  pub data_blocks : message * 8 ≡ message * 8 / b * b
+  pub parity_blocks : parity ≡ parity / (b / 8) * (b / 8)
+  pub rows_all : rows ≡ message * 8 / b * parity
+  pub fits : message * 8 < 2 ^ 64
 
 -- k data bits and r parity bits, not none, in blocks of b bits, whole bytes each, and a row of r / 64 words for each block of data
 pub record Parts (s g : List ℕ) (k r b : ℕ) : Type 0 where

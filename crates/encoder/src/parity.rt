@@ -1,95 +1,83 @@
-// The parity part of a codeword, from byte at on.
-ghost use Rattle.std.specs.Prelude.{◌≡◌, ◌+◌, ◌-◌, ◌*◌, ◌/◌, ◌%◌, ◌^◌, ◌≤◌, ◌<◌, length};
+// The parity part of a codeword.
+ghost use Rattle.std.specs.Prelude.{◌≡◌, ◌*◌, ◌/◌, ◌-◌, ◌++◌, ◌≤◌, ◌<◌, length, take};
 ghost use Rattle.maths.specs.Bits.{bit_at};
-ghost use Rattle.codes.specs.Frames.{parity, generator_bit};
-ghost use Rattle.encoder.specs.Rotation.{placed, bits_from};
+ghost use Rattle.maths.specs.Bytes.{pack};
+ghost use Rattle.codes.specs.Frames.{parity as parity_bit, generator_bit};
 ghost use Rattle.encoder.specs.Rows.{added, row_bit, rows_at, blocks_turned};
 ghost use Rattle.encoder.specs.Sizes.{Laid, Parts};
 
 use crate::rotation::rotate_block;
 use crate::words::put_words;
+use codes::CodeParams;
 
-// Clears the len bytes from at on.
-fn clear(codeword: &mut [u8], at: usize, len: usize)
-    requires { at + len ≤ length codeword.old }
-    ensures { codeword.new ≡ placed codeword.old at len (λ j. 0) }
+// Bit i of a byte string, the highest of a byte first.
+fn bit_at(s: &[u8], i: usize) -> u8
+    requires { i < length s.now * 8 }
+    ensures { result ≡ bit_at s.now i }
 {
-    for i in 0..len {
-        codeword[at + i] = 0;
+    (s[i / 8] >> (7 - i % 8)) & 1
+}
+
+// Adds a row to the parity bytes.
+fn add_row(parity: &mut [u8], row: &[u8])
+    requires { length row.now ≡ length parity.old }
+    ensures { parity.new ≡ added parity.old (bit_at row.now) }
+{
+    for (i, x) in row.iter().enumerate() {
+        parity[i] ^= *x;
     }
 }
 
-// Bit j of a byte, the highest first.
-fn bit_of(x: u8, j: usize) -> u8
-    requires { j < 8 }
-    ensures { result ≡ x / 2 ^ (7 - j) % 2 }
+// Adds the rows of the data bits c * b + o that are set.
+fn add_rows(parity: &mut [u8], data: &[u8], rows: &[u8], b: usize, o: usize)
+    requires { (o < b) × Laid (length «data».now) (length parity.old) (length rows.now) b }
+    ensures { parity.new ≡ added parity.old (rows_at b (row_bit (length parity.old) rows.now) (bit_at «data».now) o (length «data».now * 8 / b)) }
 {
-    (x >> (7 - j)) & 1
-}
-
-// Adds the len bytes of a row, which begins at byte from.
-fn add_row(codeword: &mut [u8], at: usize, rows: &[u8], from: usize, len: usize)
-    requires { (at + len ≤ length codeword.old) × (from + len ≤ length rows.now) }
-    ensures { codeword.new ≡ added codeword.old at len (bits_from rows.now from) }
-{
-    for i in 0..len {
-        codeword[at + i] = codeword[at + i] ^ rows[from + i];
-    }
-}
-
-// Adds the rows of the data bits c * b + o that are set, of count rows of len bytes.
-fn add_rows(
-    codeword: &mut [u8],
-    at: usize,
-    rows: &[u8],
-    o: usize,
-    b: usize,
-    count: usize,
-    len: usize,
-)
-    requires { (o < b) × Laid codeword.old rows.now at b count len }
-    ensures { codeword.new ≡ added codeword.old at len (rows_at b (row_bit len rows.now) (bit_at codeword.old) o count) }
-{
-    for c in 0..count {
-        let i = c * b + o;
-        if bit_of(codeword[i / 8], i % 8) == 1 {
-            add_row(codeword, at, rows, c * len, len);
+    let len = parity.len();
+    // By index: chunks_exact was tried, and `encode` of the TM codes took a fifth longer.
+    for c in 0..data.len() * 8 / b {
+        if bit_at(data, c * b + o) == 1 {
+            add_row(parity, &rows[c * len..c * len + len]);
         }
     }
 }
 
 // Rotates each of the blocks of len bytes.
-fn rotate_blocks(codeword: &mut [u8], at: usize, len: usize, blocks: usize)
-    requires { (1 ≤ len) × (at + blocks * len ≤ length codeword.old) }
-    ensures { codeword.new ≡ placed codeword.old at (blocks * len) (blocks_turned (len * 8) (bits_from codeword.old at)) }
+fn rotate_blocks(parity: &mut [u8], len: usize)
+    requires { (1 ≤ len) × (length parity.old ≡ length parity.old / len * len) }
+    ensures { parity.new ≡ pack (blocks_turned (len * 8) (bit_at parity.old)) (length parity.old) }
 {
-    for i in 0..blocks {
-        rotate_block(codeword, at + i * len, len);
+    // By index: of the bytes that chunks_exact_mut lent a proof knows nothing afterwards.
+    for i in 0..parity.len() / len {
+        rotate_block(&mut parity[i * len..i * len + len]);
     }
 }
 
-// Puts the r parity bits behind the k data bits: each offset adds its rows, and the left turn of every block stands for the right turn of the rows to come.
-// The rows are lent room for as many bytes as the generator has.
-pub(crate) fn encode_parity(
-    codeword: &mut [u8],
-    g: &[u64],
-    rows: &mut [u8],
-    k: usize,
-    r: usize,
-    b: usize,
-)
-    requires { Parts codeword.old g.now k r b × (length rows.old ≡ length g.now * 8) }
-    ensures { codeword.new ≡ placed codeword.old (k / 8) (r / 8) (parity b k (generator_bit (r / 64) g.now) (bit_at codeword.old)) }
+// The parity of the data: each offset adds its rows, and the left turn of every block stands for the right turn of the rows to come.
+fn fill_parity(parity: &mut [u8], data: &[u8], rows: &[u8], b: usize)
+    requires { Laid (length «data».now) (length parity.old) (length rows.now) b }
+    ensures { parity.new ≡ pack (parity_bit b (length «data».now * 8) (row_bit (length parity.old) rows.now) (bit_at «data».now)) (length parity.old) }
 {
-    let at = k / 8;
-    let count = k / b;
-    let bytes = r / 8;
-    let len = b / 8;
-    let blocks = r / b;
-    put_words(g, rows);
-    clear(codeword, at, bytes);
+    parity.fill(0);
+    // By number: an offset picks the data bits that add rows.
     for o in 0..b {
-        add_rows(codeword, at, rows, o, b, count, bytes);
-        rotate_blocks(codeword, at, len, blocks);
+        add_rows(parity, data, rows, b, o);
+        rotate_blocks(parity, b / 8);
     }
+}
+
+// Puts the parity bits behind the data bits, by a generator of WORDS words, which has BYTES bytes: a computed size cannot be asked for.
+pub(crate) fn encode_parity<const WORDS: usize, const BYTES: usize>(
+    codeword: &mut [u8],
+    g: &[u64; WORDS],
+    row: CodeParams,
+)
+    requires bytes { BYTES ≡ WORDS * 8 }
+    requires parts { Parts codeword.old g.now row.k (row.n - row.k) row.circulant_size }
+    ensures { let message = take (row.k / 8) codeword.old in codeword.new ≡ message ++ pack (parity_bit row.circulant_size row.k (generator_bit ((row.n - row.k) / 64) g.now) (bit_at message)) ((row.n - row.k) / 8) }
+{
+    let mut rows = [0; BYTES];
+    put_words(g, &mut rows);
+    let (data, parity) = codeword.split_at_mut(row.k / 8);
+    fill_parity(parity, data, &rows, row.circulant_size);
 }

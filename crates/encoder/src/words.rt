@@ -1,32 +1,14 @@
 // The words of a generator as bytes: a row is then added byte for byte, many of them at a time.
-ghost use Rattle.std.specs.Prelude.{◌≡◌, ◌+◌, ◌*◌, ◌%◌, ◌≤◌, length};
-ghost use Rattle.encoder.specs.Rotation.{placed};
-ghost use Rattle.encoder.specs.Rows.{word_bit, words_bit};
+ghost use Rattle.std.specs.Prelude.{◌≡◌, ◌*◌, length};
+ghost use Rattle.maths.specs.Bytes.{pack};
+ghost use Rattle.encoder.specs.Rows.{words_bit};
 
-// The lowest byte of a word.
-fn low_byte(x: u64) -> u8
-    ensures { result ≡ x % 256 }
-{
-    (x & 255) as u8
-}
-
-// Puts a word, its highest byte first.
-fn put_word(rows: &mut [u8], at: usize, word: u64)
-    requires { at + 8 ≤ length rows.old }
-    ensures { rows.new ≡ placed rows.old at 8 (word_bit word) }
-{
-    for i in 0..8 {
-        let shift = 56 - 8 * i;
-        rows[at + i] = low_byte(word >> shift);
-    }
-}
-
-// Puts the words, one after the other.
+// Puts the words, one after the other, the highest byte of each first.
 pub(crate) fn put_words(g: &[u64], rows: &mut [u8])
     requires { length rows.old ≡ length g.now * 8 }
-    ensures { rows.new ≡ placed rows.old 0 (length g.now * 8) (words_bit g.now) }
+    ensures { rows.new ≡ pack (words_bit g.now) (length g.now * 8) }
 {
-    for i in 0..g.len() {
-        put_word(rows, i * 8, g[i]);
+    for (i, word) in g.iter().enumerate() {
+        rows[i * 8..i * 8 + 8].copy_from_slice(&word.to_be_bytes());
     }
 }

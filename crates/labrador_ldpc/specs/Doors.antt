@@ -1,19 +1,13 @@
 -- What the functions for other languages leave behind: the library's own outcomes, with the report in numbers. Assumes nothing.
 use Rattle.std.specs.Prelude.{not, List, [], ◌∷◌, ℕ, eqb, ℤ, length}
 use Rattle.maths.specs.Tests.{pick}
-use Rattle.codes.specs.declared.CodeParams.{CodeParams}
 use Rattle.codes.specs.Answers.{test, first_of, unlike}
-use Rattle.codes.specs.Codes.{known, row_of}
+use Rattle.codes.specs.Codes.{known, row_of, numbers}
 use Rattle.report.specs.Report.{flag}
 use Rattle.bit_flip.specs.Outcome as flips
 use Rattle.min_sum.specs.Outcomes.{Outcome}
 
--- ten numbers in the order of the fields
-abbrev pub numbers : CodeParams → List ℕ
-numbers p =
-    p.n ∷ p.k ∷ p.punctured_bits ∷ p.submatrix_size ∷ p.circulant_size ∷ p.paritycheck_sum ∷
-    p.decode_bf_working_len ∷ p.decode_ms_working_len ∷ p.decode_ms_working_u8_len ∷ p.output_len ∷ []
-
+-- a code's ten numbers
 pub record Row : Type 0 where
   pub answer : ℕ
   pub numbers : List ℕ

@@ -1,10 +1,10 @@
 -- A loop that puts f of each element in its place, from the first on: what holds at a turn, and at its end, for `search maps`. Assumes nothing.
-use mathlib.Core.List.{List, map}
-use mathlib.Core.Path.{◌≡◌, ◌∙◌}
-use Prim.Native.Nat.{ℕ, ◌+◌, ◌≤◌, ◌<◌}
+use mathlib.Core.List.{List, [], ◌∷◌, map}
+use mathlib.Core.Path.{◌≡◌, refl, ap, ◌∙◌}
+use Prim.Native.Nat.{ℕ, zero, suc, ◌+◌, ◌≤◌, ◌<◌}
 use native.Mathlib.Omega.{arith}
 use borrow.Author.Rules.{rules}
-use lib.ListN.{length, get_or, set}
+use lib.ListN.{length, get_or, set, replicate}
 use Rattle.maths.proofs.Slices.{overwrite_next, span_map}
 use Rattle.maths.proofs.Writing.{Written, written_none, written_more, written_all}
 
@@ -27,3 +27,14 @@ module _ {A : Type 0} {d : A} {f : A → A} {l₀ : List A} where
     mapped_all h e = written_all m.written h e ∙ span_map d f l₀
 
 pub ruleset maps = (mapped_none, mapped_more, mapped_all, rules)
+
+-- each element changed, after a store and of a repeated one
+module _ {A B : Type 0} (f : A → B) where
+  pub map_set : (w : List A) (i : ℕ) (x : A) → map f (set w i x) ≡ set (map f w) i (f x)
+  map_set [] i x = refl
+  map_set (y ∷ w) zero x = refl
+  map_set (y ∷ w) (suc i) x = ap (λ (l : List B). f y ∷ l) (map_set w i x)
+
+  pub map_replicate : (n : ℕ) (x : A) → map f (replicate n x) ≡ replicate n (f x)
+  map_replicate zero x = refl
+  map_replicate (suc n) x = ap (λ (l : List B). f x ∷ l) (map_replicate n x)

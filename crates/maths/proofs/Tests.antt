@@ -3,13 +3,13 @@ use mathlib.Core.Bool.{Bool, true, false}
 use mathlib.Core.Logic.{⊎_elim}
 use mathlib.Core.Path.{◌≡◌, refl, sym, ◌∙◌, subst}
 use mathlib.Core.List.{List, [], ◌∷◌, ◌++◌, flat_map}
-use Prim.Native.Nat.{ℕ, zero, suc, ◌+◌, ◌-◌, ◌≤◌, ◌<◌}
+use Prim.Native.Nat.{ℕ, zero, suc, ◌+◌, ◌<◌}
 use native.Mathlib.Nat.{add-zero, add-suc, suc-add, le_of_suc-le-suc, not-suc-le-zero, eq-or-lt_of_le}
-use native.Mathlib.Decide.{ℕ_discrete, dec_le}
+use native.Mathlib.Decide.{ℕ_discrete}
 use native.Mathlib.Omega.{arith}
-use lib.Dec.{T, eqb, eqb→eq, leb}
+use lib.Dec.{T, eqb, eqb→eq}
 use lib.ListN.{length, get_or}
-use borrow.Author.Tests.{ne_eqb, le-leb, lt-leb}
+use borrow.Author.Tests.{ne_eqb}
 use Rattle.maths.specs.Tests.{pick, both, all, below, Agrees}
 use Rattle.maths.specs.Lists.{span}
 
@@ -45,10 +45,6 @@ pub both_false : (a : Bool) → both a false ≡ false
 both_false true = refl
 both_false false = refl
 
-pub both_assoc : (a b c : Bool) → both (both a b) c ≡ both a (both b c)
-both_assoc true b c = refl
-both_assoc false b c = refl
-
 pub both_swap : (a b c : Bool) → both a (both b c) ≡ both b (both a c)
 both_swap true true c = refl
 both_swap true false c = refl
@@ -61,17 +57,6 @@ eqb_swap x y = go (ℕ_discrete x y)
     go : Dec (x ≡ y) → eqb x y ≡ eqb y x
     go (yes e) = rw e
     go (no e) = ne_eqb x y e ∙ sym (ne_eqb y x (λ q. e (sym q)))
-
--- n elements from v on, of l
-pub room_none : (v n l : ℕ) → l < n → false ≡ leb (v + n) l
-room_none v n l h = sym (lt-leb (v + n) l (omega arith))
-
-pub room_left : (v n l : ℕ) → n ≤ l → leb v (l - n) ≡ leb (v + n) l
-room_left v n l h = go (dec_le v (l - n))
-  where
-    go : Dec (v ≤ l - n) → leb v (l - n) ≡ leb (v + n) l
-    go (yes q) = le-leb v (l - n) q ∙ sym (le-leb (v + n) l (omega arith))
-    go (no q) = lt-leb v (l - n) (omega arith) ∙ sym (lt-leb (v + n) l (omega arith))
 
 -- of the element at an index below the length
 pub all_at : {A : Type 0} (f : A → Bool) (d : A) (xs : List A) → T (all f xs) → (k : ℕ) → k < length xs → T (f (get_or xs k d))

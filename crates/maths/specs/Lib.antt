@@ -8,4 +8,3 @@ pub mod Bits
 pub mod Bytes
 pub mod Distance
 pub mod Budget
-pub mod Parts

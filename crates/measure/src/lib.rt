@@ -6,7 +6,7 @@ ghost use Rattle.std.specs.Prelude.{◌≡◌, ◌+◌, ◌%◌, length};
 ghost use Rattle.runs.specs.Runs.{runs};
 ghost use Rattle.measure.specs.Sum.{sum_of};
 
-use codes::parity_iter::{Step, iter_paritychecks};
+use codes::parity_iter::iter_paritychecks;
 use runs::runs_of;
 
 // Small enough that no sum wraps.
@@ -20,22 +20,18 @@ fn folded(sum: usize, check: usize, bit: usize) -> usize
 pub fn measure_walk(code: usize) -> usize
     ensures { result ≡ sum_of code }
 {
-    let mut walk = iter_paritychecks(code).walk;
-    let mut sum: usize = 0;
-    loop {
-        match walk.step() {
-            Step::Next(check, bit, next) => {
-                sum = folded(sum, check.0, bit.0);
-                walk = next;
-            }
-            Step::Finished => return sum,
+    let mut sum = 0;
+    if let Ok(walk) = iter_paritychecks(code) {
+        for (check, bit) in walk {
+            sum = folded(sum, check.0, bit.0);
         }
     }
+    sum
 }
 
 // How many runs a code has, by filling their list.
 pub fn measure_runs(code: usize) -> usize
     ensures { result ≡ length (runs code) }
 {
-    runs_of(code).count
+    runs_of(code).as_slice().len()
 }

@@ -5,10 +5,9 @@ use Prim.Native.Nat.{ℕ, ◌/◌, ◌%◌}
 use lib.Dec.{eqb}
 use lib.ListN.{get_or, set}
 use Rattle.maths.specs.Tests.{pick}
-use Rattle.min_sum.specs.declared.layout.Layout.{Layout}
 use Rattle.min_sum.specs.Confidence.{Confidence}
 use Rattle.min_sum.specs.MinSum.{Link, Messages, at, take_message}
-use Rattle.min_sum.specs.Working.{held}
+use Rattle.min_sum.specs.Working.{Parts, held}
 
 abbrev pub odd_in : ℕ → Bool
 odd_in b = eqb (b / 2 % 2) 1
@@ -18,8 +17,8 @@ pub record Checked (C : Type 0) : Type 0 where
   pub messages : Messages C
   pub odd : List Bool
 
-unfoldable pub held_checked : {C : Type 0} → Layout → List C → List ℕ → Checked C
-held_checked l w s = record { messages = held l w s; odd = map odd_in s }
+unfoldable pub held_checked : {C : Type 0} → Parts C → Checked C
+held_checked p = record { messages = held p; odd = map odd_in p.marks }
 
 unfoldable pub take_checked : {C : Type 0} → Confidence C → Link → Checked C → Checked C
 take_checked o e x =

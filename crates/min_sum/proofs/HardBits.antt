@@ -1,6 +1,5 @@
 -- Hard bits in bytes, on numbers as the machine has them. Assumes nothing.
-use mathlib.Core.Path.{◌≡◌, sym, ap, ◌∙◌}
-use mathlib.Core.Bool.{Bool, true, false}
+use mathlib.Core.Path.{◌≡◌, sym, ◌∙◌}
 use mathlib.Core.List.{List}
 use Prim.Native.Nat.{ℕ, ◌+◌, ◌-◌, ◌*◌, ◌/◌, ◌%◌, ◌^◌, ◌≤◌, ◌<◌}
 use native.Mathlib.Nat.{add-zero}
@@ -8,14 +7,13 @@ use native.Mathlib.Omega.{arith}
 use borrow.Author.Rules.{rules}
 use borrow.Author.Tests.{lt-ltb, le-ltb}
 use lib.IntN.{ℤ}
+use lib.Signed.{mag}
 use lib.ListN.{length, get_or}
 use mir.Syntax.{Width}
-use mir.Val.{SFits}
-use mir.Facts.{to_z-of_z}
+use mir.Val.{hbits, to_z, of_z}
 use Rattle.maths.specs.Tests.{pick}
 use Rattle.maths.specs.Sums.{sum_n}
 use Rattle.maths.specs.Bytes.{byte, pack}
-use Rattle.min_sum.specs.Soft.{hard}
 use Rattle.min_sum.specs.Confidence.{Confidence}
 use Rattle.min_sum.specs.MinSum.{hard_bits}
 use Rattle.min_sum.specs.Hard.{packed}
@@ -23,14 +21,13 @@ use Rattle.min_sum.proofs.Signed.{back}
 use Rattle.maths.proofs.Writing.{written_in}
 use Rattle.min_sum.proofs.Packed.{byte_halves}
 use Rattle.min_sum.proofs.Loops.{packed_none, packed_more, packed_all}
-use Rattle.min_sum.proofs.Leaves.{read, Low}
 
--- a bit, by the branch that was taken
-pub bit_one : (w : Width) (x : ℤ) (h : Bool) → h ≡ true → h ≡ hard (read w x) → SFits w x → ◌≡◌ {A = ℕ} 1 (pick (hard x) 1 0)
-bit_one w x h t e f = let b : hard x ≡ true = ap hard (sym (to_z-of_z f)) ∙ sym e ∙ t in rw b
+-- the number that the machine reads back
+abbrev pub read : Width → ℤ → ℤ
+read w z = to_z w (of_z w z)
 
-pub bit_none : (w : Width) (x : ℤ) (h : Bool) → h ≡ false → h ≡ hard (read w x) → SFits w x → ◌≡◌ {A = ℕ} 0 (pick (hard x) 1 0)
-bit_none w x h t e f = let b : hard x ≡ false = ap hard (sym (to_z-of_z f)) ∙ sym e ∙ t in rw b
+abbrev pub Low : Width → ℤ → Type 0
+Low w z = mag z < 2 ^ hbits w
 
 -- the bits of four numbers
 abbrev Bit : Confidence ℤ → Width → ℤ → ℕ → Type 0
@@ -62,4 +59,4 @@ module _ {C : Type 0} (o : Confidence C) (xs : List C) (old : List ℕ) where
   pub enough_packed : (out : List ℕ) → out ≡ pack (hard_bits o xs) (length old) → length old ≤ length xs / 8 → out ≡ packed o xs old
   enough_packed out e h = e ∙ sym (enough h)
 
-pub ruleset packs = (bit_one, bit_none, nibble, halves, packed_none, packed_more, packed_all, written_in, too_few, enough_packed, rules)
+pub ruleset packs = (nibble, halves, packed_none, packed_more, packed_all, written_in, too_few, enough_packed, rules)

@@ -2,7 +2,6 @@ pub mod Signed
 pub mod Checked
 pub mod Held
 pub mod Links
-pub mod Over
 pub mod Parity
 pub mod Pass
 pub mod Answers
@@ -11,9 +10,6 @@ pub mod Packed
 pub mod Conversions
 pub mod Marginals
 pub mod Success
-pub mod Leaves
 pub mod Loops
-pub mod Stores
-pub mod Fitting
-pub mod Exchange
 pub mod HardBits
+pub mod Fitting

@@ -1,5 +1,5 @@
 -- The loops: what holds at a turn, and why it holds at the next, for any numbers that stand for confidences. Assumes nothing.
-use mathlib.Core.Path.{◌≡◌, refl, sym, ◌∙◌}
+use mathlib.Core.Path.{◌≡◌, refl, sym, ap, ◌∙◌}
 use mathlib.Core.Bool.{Bool, true, false}
 use mathlib.Core.List.{List, flat_map}
 use Prim.Native.Nat.{ℕ, ◌+◌, ◌-◌, ◌*◌, ◌/◌, ◌^◌, ◌≤◌, ◌<◌}
@@ -10,8 +10,9 @@ use lib.Dec.{eqb}
 use lib.IntN.{ℤ}
 use lib.Signed.{mag}
 use lib.ListN.{length, get_or, set, drop}
-use mir.Syntax.{Width, w64}
-use mir.Val.{Fits, hbits, to_z, of_z}
+use mir.Syntax.{Width}
+use mir.Val.{hbits, to_z, of_z}
+use Rattle.std.proofs.lemmas.List.{get_or_default}
 use Rattle.maths.specs.Lists.{span, fold}
 use Rattle.maths.specs.Tests.{pick}
 use Rattle.maths.specs.Budget as budget
@@ -22,82 +23,83 @@ use Rattle.maths.proofs.Budget.{run_first, run_more, run_stop, run_out}
 use Rattle.maths.proofs.Lists.{span_turn, span_end}
 use Rattle.maths.proofs.Bytes.{byte_from}
 use Rattle.maths.proofs.Writing.{Written, written_none, written_more, written_in, written_all}
-use Rattle.runs.specs.Runs.{run, run_edges, read_runs}
+use Rattle.runs.specs.Runs.{run_edges}
 use Rattle.runs.specs.declared.EdgeRun.{EdgeRun}
-use Rattle.min_sum.specs.declared.layout.Layout.{Layout}
 use Rattle.min_sum.specs.Confidence.{Confidence}
-use Rattle.min_sum.specs.MinSum.{Link, link, numbered, turn}
+use Rattle.min_sum.specs.MinSum.{Link, Messages, numbered}
 use Rattle.min_sum.specs.Hard.{to_llrs}
-use Rattle.min_sum.specs.Layouts.{Room, Inside, Rest, Sized}
-use Rattle.min_sum.specs.Working.{link_at, run_links, buffers, add_at, take_at, held}
+use Rattle.min_sum.specs.Layouts.{Inside, Rest}
+use Rattle.min_sum.specs.Working.{Parts, Agree, Alike, Keeps, layout, link_at, run_links, over_edges, held, turn_in}
 use Rattle.min_sum.proofs.Signed.{back}
-use Rattle.runs.proofs.Sweep.{read_length}
-use Rattle.min_sum.proofs.Links.{inside_one, turn_inside, turn_rest, turn_fold, end_fold}
+use Rattle.min_sum.proofs.Held.{alike_refl, alike_trans, fold_alike}
+use Rattle.min_sum.proofs.Links.{turn_inside, turn_rest, turn_fold, end_fold}
 
--- ---- a run of edges from number e, check a and bit v on, at turn i of size: folding what is left over the present state gives the whole. The buffers
--- had n₀ numbers and m₀ bytes, and have n and m
-pub record Running {S : Type 0} (step : Link → S → S) (e a v size i n₀ m₀ n m : ℕ) (s₀ s : S) : Type 0 where
+-- ---- a run of edges from number e, check a and bit v on, at turn i of size: folding what is left over the present parts gives the whole
+pub record Running {C : Type 0} (step : Link → Parts C → Parts C) (e a v size i : ℕ) (p₀ p : Parts C) : Type 0 where
   pub low : i ≤ size
-  pub long : n ≡ n₀
-  pub marks : m ≡ m₀
-  pub folded : fold step (span (link_at e a v) i (size - i)) s ≡ fold step (run_links e a v size) s₀
+  pub alike : Alike p₀ p
+  pub folded : fold step (span (link_at e a v) i (size - i)) p ≡ fold step (run_links e a v size) p₀
 
-module _ {S : Type 0} {step : Link → S → S} {e a v size : ℕ} where
-  pub run_begins : {n m : ℕ} {s : S} → Running step e a v size 0 n m n m s s
-  run_begins = record { low = omega arith; long = refl; marks = refl; folded = rw (sub-zero size) }
+module _ {C : Type 0} {step : Link → Parts C → Parts C} {e a v size : ℕ} where
+  pub run_begins : {p : Parts C} → Running step e a v size 0 p p
+  run_begins = record { low = omega arith; alike = alike_refl; folded = rw (sub-zero size) }
 
-  module _ {i n₀ m₀ n m : ℕ} {s₀ s : S} (r : Running step e a v size i n₀ m₀ n m s₀ s) where
-    pub run_room : {l : Layout} → Room l n₀ m₀ → Room l n m
-    run_room z = rw (r.long, r.marks) z
+  module _ {i : ℕ} {p₀ p : Parts C} (r : Running step e a v size i p₀ p) where
+    pub run_inside : Inside (layout p₀) e a v size → i < size → Inside (layout p) (e + i) (a + i) (v + i) 1
+    run_inside h k = let z = r.alike in record { numbers = omega (arith, h.numbers, z.u); checks = omega (arith, h.checks, z.marks); bits = omega (arith, h.bits, z.marginals) }
 
-    pub run_again : {n' m' : ℕ} {s' : S} → i < size → n' ≡ n → m' ≡ m → s' ≡ step (link (e + i) (a + i) (v + i)) s → Running step e a v size (i + 1) n₀ m₀ n' m' s₀ s'
-    run_again h p q t = record { low = omega arith; long = p ∙ r.long; marks = q ∙ r.marks; folded = span_turn step (link_at e a v) size i s r.folded h t }
-
-    pub run_ends : size ≤ i → s ≡ fold step (run_links e a v size) s₀
-    run_ends h = span_end step (link_at e a v) size i s r.folded h
-
-pub run_inside : {l : Layout} {e a v size i : ℕ} → Inside l e a v size → i < size → Inside l (e + i) (a + i) (v + i) 1
-run_inside {i = i} h k = inside_one i h k
-
--- ---- the runs that the numbers ns tell, at turn i, after e edges: folding the edges of the runs that are left gives the whole
-pub record Passing {S : Type 0} (step : Link → S → S) (l : Layout) (ns : List ℕ) (e i n₀ m₀ n m : ℕ) (s₀ s : S) : Type 0 where
-  pub low : i ≤ length ns / 3
-  pub long : n ≡ n₀
-  pub marks : m ≡ m₀
-  pub rest : Rest l e (drop i (read_runs ns))
-  pub folded : fold step (numbered e (flat_map run_edges (drop i (read_runs ns)))) s ≡ fold step (numbered 0 (flat_map run_edges (read_runs ns))) s₀
-
-module _ {S : Type 0} {step : Link → S → S} {l : Layout} {ns : List ℕ} where
-  pub pass_begins : {n m : ℕ} {s : S} → Rest l 0 (read_runs ns) → Passing step l ns 0 0 n m n m s s
-  pass_begins p = record { low = omega arith; long = refl; marks = refl; rest = p; folded = refl }
-
-  module _ {e i n₀ m₀ n m : ℕ} {s₀ s : S} (p : Passing step l ns e i n₀ m₀ n m s₀ s) where
-    pub pass_room : Room l n₀ m₀ → Room l n m
-    pass_room z = rw (p.long, p.marks) z
-
-    pub pass_ends : length ns / 3 ≤ i → s ≡ fold step (numbered 0 (flat_map run_edges (read_runs ns))) s₀
-    pass_ends h = end_fold step (read_runs ns) i e s p.folded (omega (arith, read_length ns))
-
-    module _ {a v z : ℕ} (k : i < length ns / 3) (t : run a v z ≡ get_or (read_runs ns) i (run 0 0 0)) where
-      there : i < length (read_runs ns)
-      there = omega (arith, read_length ns)
-
-      pub pass_inside : Inside l e a v z
-      pass_inside = turn_inside l (read_runs ns) i e p.rest there t
-
-      pub pass_fits : Room l n₀ m₀ → n₀ < 2 ^ 64 → Fits w64 (e + z)
-      pass_fits d h = record { fits = omega (arith, pass_inside.numbers, d.messages) }
-
-    pub pass_again : {a v z n' m' : ℕ} {s' : S} → s' ≡ fold step (run_links e a v z) s → run a v z ≡ get_or (read_runs ns) i (run 0 0 0) → i < length ns / 3 → n' ≡ n → m' ≡ m
-        → Passing step l ns (e + z) (i + 1) n₀ m₀ n' m' s₀ s'
-    pass_again q t k f g =
+    pub run_again : {p' : Parts C} → Keeps step → i < size → p' ≡ step (link_at e a v i) p → Running step e a v size (i + 1) p₀ p'
+    run_again keeps h t =
         record {
           low = omega arith;
-          long = f ∙ p.long;
-          marks = g ∙ p.marks;
-          rest = turn_rest l (read_runs ns) i e p.rest (there k t) t;
-          folded = turn_fold l (read_runs ns) i e p.rest (there k t) t step s p.folded q;
+          alike = alike_trans r.alike (rw t (keeps (link_at e a v i) p));
+          folded = span_turn step (link_at e a v) size i p r.folded h t;
         }
+
+    pub run_ends : size ≤ i → p ≡ fold step (run_links e a v size) p₀
+    run_ends h = span_end step (link_at e a v) size i p r.folded h
+
+-- ---- the runs of the parts, at turn i, after e edges: folding the edges of the runs that are left gives the whole
+pub record Passing {C : Type 0} (step : Link → Parts C → Parts C) (e i : ℕ) (p₀ p : Parts C) : Type 0 where
+  pub low : i ≤ length p₀.runs
+  pub edges_low : e ≤ 65536 * i
+  pub alike : Alike p₀ p
+  pub rest : Rest (layout p₀) e (drop i p₀.runs)
+  pub folded : fold step (numbered e (flat_map run_edges (drop i p₀.runs))) p ≡ over_edges step p₀
+
+module _ {C : Type 0} {step : Link → Parts C → Parts C} where
+  pub pass_begins : {p : Parts C} → Agree p → Passing step 0 0 p p
+  pass_begins g = record { low = omega arith; edges_low = omega arith; alike = alike_refl; rest = g.ready.runs; folded = refl }
+
+  module _ {e i : ℕ} {p₀ p : Parts C} (q : Passing step e i p₀ p) where
+    pub pass_ends : (rs : List EdgeRun) → rs ≡ p₀.runs → length rs ≤ i → p ≡ over_edges step p₀
+    pass_ends rs er h = end_fold step p₀.runs i e p q.folded (rw er at h)
+
+    -- the runs, as they are lent
+    module _ (rs : List EdgeRun) (er : rs ≡ p₀.runs) (k : i < length rs) (d : EdgeRun) where
+      low_there : i < length p₀.runs
+      low_there = rw er at k
+
+      is_there : get_or rs i d ≡ get_or p₀.runs i (get_or rs i d)
+      is_there = get_or_default rs i d (get_or rs i d) k ∙ ap (λ (xs : List EdgeRun). get_or xs i (get_or rs i d)) er
+
+      pub pass_inside : Inside (layout p) e (get_or rs i d).check (get_or rs i d).bit (get_or rs i d).size
+      pass_inside =
+          let z = q.alike in
+          let h = turn_inside (layout p₀) p₀.runs i e q.rest low_there is_there in
+          record { numbers = omega (arith, h.numbers, z.u); checks = omega (arith, h.checks, z.marks); bits = omega (arith, h.bits, z.marginals) }
+
+      pub pass_again : {p' : Parts C} {n : ℕ} → Keeps step → n ≡ (get_or rs i d).size → n < 65536
+          → p' ≡ fold step (run_links e (get_or rs i d).check (get_or rs i d).bit (get_or rs i d).size) p → Passing step (e + n) (i + 1) p₀ p'
+      pass_again {p'} keeps en small f =
+          let r = get_or rs i d in
+          record {
+            low = omega (arith, low_there);
+            edges_low = omega (arith, q.edges_low);
+            alike = alike_trans q.alike (rw f (fold_alike keeps (run_links e r.check r.bit r.size) p));
+            rest = rw en (turn_rest (layout p₀) p₀.runs i e q.rest low_there is_there);
+            folded = rw en (turn_fold (layout p₀) p₀.runs i e q.rest low_there is_there step p q.folded f);
+          }
 
 -- ---- lists that are written from the front
 -- its elements are the bytes of bits
@@ -141,56 +143,35 @@ pub read_is : (w : Width) (y x : ℤ) → y ≡ x → mag y < 2 ^ hbits w → to
 read_is w y x e k = back w y k ∙ e
 
 -- ---- the passes, at turn i of n
-pub record Trying {S : Type 0} (turn : S → Turn S) (n i n₀ m₀ k m : ℕ) (s₀ s : S) : Type 0 where
+pub record Trying {C : Type 0} (o : Confidence C) (n i : ℕ) (p₀ p : Parts C) : Type 0 where
   pub low : i ≤ n
-  pub long : k ≡ n₀
-  pub marks : m ≡ m₀
-  pub ran : budget.run turn (n - i) i s ≡ budget.run turn n 0 s₀
+  pub alike : Alike p₀ p
+  pub ran : budget.run (turn_in o p₀) (n - i) i (held p) ≡ budget.run (turn_in o p₀) n 0 (held p₀)
 
-module _ {S : Type 0} {turn : S → Turn S} {n : ℕ} where
-  pub try_begins : {k m : ℕ} {s : S} → Trying turn n 0 k m k m s s
-  try_begins {s = s} = record { low = omega arith; long = refl; marks = refl; ran = run_first turn n s }
+-- parts that are alike have the same turn
+pub turn_alike : {C : Type 0} (o : Confidence C) {p q : Parts C} → Alike p q → turn_in o q ≡ turn_in o p
+turn_alike o z = rw (z.runs, z.marks, z.marginals, z.llrs)
 
-  module _ {i n₀ m₀ k m : ℕ} {s₀ s : S} (t : Trying turn n i n₀ m₀ k m s₀ s) where
-    pub try_sized : {l : Layout} → Sized l n₀ m₀ → Sized l k m
-    try_sized z = rw (t.long, t.marks) z
+module _ {C : Type 0} {o : Confidence C} {n : ℕ} where
+  pub try_begins : {p : Parts C} → Trying o n 0 p p
+  try_begins {p = p} = record { low = omega arith; alike = alike_refl; ran = run_first (turn_in o p) n (held p) }
 
-    pub try_out : n ≤ i → end false n s ≡ budget.run turn n 0 s₀
-    try_out h = run_out turn n i s t.ran t.low h
+  module _ {i : ℕ} {p₀ p : Parts C} (t : Trying o n i p₀ p) where
+    pub try_out : n ≤ i → end false n (held p) ≡ budget.run (turn_in o p₀) n 0 (held p₀)
+    try_out h = run_out (turn_in o p₀) n i (held p) t.ran t.low h
 
-    module _ {b : Bool} {s' : S} (h : i < n) (e : pick b (stop s') (go s') ≡ turn s) where
-      pub try_stop : b ≡ true → end true i s' ≡ budget.run turn n 0 s₀
-      try_stop f = run_stop turn n i s t.ran h (sym (rw f at e))
+    module _ (b : Bool) (p' : Parts C) (h : i < n) (e : pick b (stop (held p')) (go (held p')) ≡ turn_in o p (held p)) where
+      turned : pick b (stop (held p')) (go (held p')) ≡ turn_in o p₀ (held p)
+      turned = e ∙ ap (λ (f : Messages C → Turn (Messages C)). f (held p)) (turn_alike o t.alike)
 
-      pub try_more : {k' m' : ℕ} → b ≡ false → k' ≡ k → m' ≡ m → Trying turn n (i + 1) n₀ m₀ k' m' s₀ s'
-      try_more f p q = record { low = omega arith; long = p ∙ t.long; marks = q ∙ t.marks; ran = run_more turn n i s t.ran h (sym (rw f at e)) }
+      pub try_stop : b ≡ true → end true i (held p') ≡ budget.run (turn_in o p₀) n 0 (held p₀)
+      try_stop f = run_stop (turn_in o p₀) n i (held p) t.ran h (sym (rw f at turned))
 
-pub kept_by : {n₀ n n' : ℕ} → n' ≡ n → n ≡ n₀ → n' ≡ n₀
-kept_by p q = p ∙ q
+      pub try_more : b ≡ false → Alike p p' → Trying o n (i + 1) p₀ p'
+      try_more f z = record { low = omega arith; alike = alike_trans t.alike z; ran = run_more (turn_in o p₀) n i (held p) t.ran h (sym (rw f at turned)) }
 
--- ---- what holds at the head of each loop
-module _ {C : Type 0} (o : Confidence C) where
-  abbrev pub AddRun : List C → List ℕ → Layout → ℕ → EdgeRun → ℕ → ℕ → List C → ℕ → Type 0
-  AddRun w₀ marks l e r i₀ size w i =
-      Running (add_at o l marks) e r.check.0 r.bit.0 r.size i (length w₀) (length marks) (length w) (length marks) w₀ w
-
-  abbrev pub TakeRun : List C → List ℕ → Layout → ℕ → EdgeRun → ℕ → ℕ → List C → List ℕ → ℕ → Type 0
-  TakeRun w₀ marks₀ l e r i₀ size w marks i =
-      Running (take_at o l) e r.check.0 r.bit.0 r.size i (length w₀) (length marks₀) (length w) (length marks) (buffers w₀ marks₀) (buffers w marks)
-
-  abbrev pub AddRuns : List C → List ℕ → Layout → List ℕ → ℕ → ℕ → ℕ → List C → ℕ → ℕ → Type 0
-  AddRuns w₀ marks l runs n e₀ i₀ w e i = Passing (add_at o l marks) l runs e i (length w₀) (length marks) (length w) (length marks) w₀ w
-
-  abbrev pub TakeRuns : List C → List ℕ → Layout → List ℕ → ℕ → ℕ → ℕ → List C → List ℕ → ℕ → ℕ → Type 0
-  TakeRuns w₀ marks₀ l runs n e₀ i₀ w marks e i =
-      Passing (take_at o l) l runs e i (length w₀) (length marks₀) (length w) (length marks) (buffers w₀ marks₀) (buffers w marks)
-
-  abbrev pub Passes : List C → List ℕ → List C → Layout → List ℕ → ℕ → ℕ → List C → List ℕ → ℕ → Type 0
-  Passes w₀ marks₀ llrs l runs limit pass₀ w marks pass =
-      Trying (turn o (flat_map run_edges (read_runs runs)) l.checks (l.bits - length llrs) llrs) limit pass (length w₀) (length marks₀) (length w) (length marks) (held l w₀ marks₀) (held l w marks)
-
-pub ruleset loops = (run_begins, run_room, run_inside, run_again, run_ends, pass_begins, pass_room, pass_inside, pass_fits, pass_again, pass_ends, rules)
+pub ruleset loops = (run_begins, run_inside, run_again, run_ends, pass_begins, pass_inside, pass_again, pass_ends, rules)
 
 pub ruleset unpacks = (unpacked_none, unpacked_asks, unpacked_in, unpacked_more, unpacked, read_is, rules)
 
-pub ruleset tries = (try_begins, try_sized, try_out, try_stop, try_more, kept_by, rules)
+pub ruleset tries = (try_begins, try_out, try_stop, try_more, rules)

@@ -1,21 +1,12 @@
 // A byte for each check: its first bit is 1 where the sign product is negative, its second where the parity of the marginals' hard bits is odd.
-ghost use Rattle.std.specs.Prelude.{◌≡◌, ◌/◌, ◌%◌, eqb, length, get_or};
-ghost use Rattle.maths.specs.Tests.{pick, below};
-ghost use Rattle.min_sum.specs.Working.{negative_in, mark_of};
-
-use bits::larger;
-
-fn weight(which: bool, x: u8) -> u8
-    ensures { result ≡ pick which x 0 }
-{
-    if which { x } else { 0 }
-}
+ghost use Rattle.std.specs.Prelude.{◌≡◌};
+ghost use Rattle.min_sum.specs.Working.{negative_in, mark_of, all_even};
 
 // What an edge turns in its check's byte.
 pub fn mark(negative: bool, odd: bool) -> u8
     ensures { result ≡ mark_of negative odd }
 {
-    weight(negative, 1) | weight(odd, 2)
+    u8::from(negative) + 2 * u8::from(odd)
 }
 
 pub fn negative(mark: u8) -> bool
@@ -24,13 +15,13 @@ pub fn negative(mark: u8) -> bool
     mark % 2 == 1
 }
 
-// Whether every check is even.
+// Whether every check is even. Their bytes are joined, many in one step: `all` would stop at the first that is odd, and look at one in a step.
 pub fn all_even(marks: &[u8]) -> bool
-    ensures { result ≡ below (length marks.now) (λ a. eqb (get_or marks.now a 0 / 2 % 2) 0) }
+    ensures { result ≡ all_even marks.now }
 {
-    let mut odd: u8 = 0;
-    for i in 0..marks.len() {
-        odd = larger(odd, marks[i] / 2 % 2);
+    let mut joined: u8 = 0;
+    for mark in marks {
+        joined |= *mark;
     }
-    odd == 0
+    joined / 2 % 2 == 0
 }

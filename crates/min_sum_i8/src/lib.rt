@@ -3,9 +3,9 @@
 #![tactic(auto)]
 
 ghost use mathlib.Core.List.{[], flat_map};
-ghost use Rattle.std.specs.Prelude.{◌≡◌, ◌-◌, ◌*◌, ◌≤◌, length, take, replicate};
-ghost use Rattle.runs.specs.Runs.{run_edges, read_runs};
-ghost use Rattle.report.specs.Report.{ending};
+ghost use Rattle.std.specs.Prelude.{◌≡◌, ◌-◌, ◌*◌, length, replicate};
+ghost use Rattle.runs.specs.Runs.{run_edges};
+ghost use Rattle.report.specs.Report.{ending, report_of};
 ghost use Rattle.min_sum.specs.Confidence.{i8};
 ghost use Rattle.min_sum.specs.MinSum.{decoded};
 ghost use Rattle.min_sum.specs.Outcomes.{left, finished_as, decode_outcome};
@@ -14,37 +14,37 @@ ghost use Rattle.min_sum.specs.Working.{ran_over};
 
 mod passes;
 
-use codes::{ACCEPTED, FEW_CHECKS, MAX_CHECKS};
+use codes::refusal::Refusal;
+use codes::{FEW_CHECKS, MAX_CHECKS};
 use confidence_i8::llrs::pack;
-use confidence_i8::parts::fill;
+use messages_i8::Messages;
 use min_sum::layout::{Layout, layout_of};
 use min_sum::refusals::decode_refusal;
 use passes::run_passes;
-use report::{Ended, Report, finished, refused};
-use runs::runs_of;
+use report::Ended;
+use runs::{EdgeRun, runs_of};
 
-// The run of passes over the first runs of a list, so many of its numbers, from buffers of zeros: the working buffer is cleared first, and
-// again at the end.
+// The run of passes over these runs, from buffers of zeros: the working buffer is cleared first, and again at the end.
 fn decode_runs(
     marks: &mut [u8],
-    triples: &[u16],
-    used: usize,
+    runs: &[EdgeRun],
     at: Layout,
     llrs: &[i8],
     output: &mut [u8],
     working: &mut [i8],
     limit: usize,
 ) -> Ended
-    requires { Sized at (length working.old) (length marks.old) × ((marks.old ≡ replicate at.checks 0) × ((used ≤ length triples.now) × (Ready at (read_runs (take used triples.now)) (length llrs.now) × (8 * length output.old ≡ at.bits)))) }
-    ensures { left (ending result.success result.iters) output.new working.new [] ≡ finished_as i8 (ran_over i8 (flat_map run_edges (read_runs (take used triples.now))) at.checks (at.bits - length llrs.now) llrs.now limit) (length working.old) 0 }
+    requires sized { Sized at (length working.old) (length marks.old) }
+    requires none { marks.old ≡ replicate at.checks 0 }
+    requires ready { Ready at runs.now (length llrs.now) }
+    requires whole { 8 * length output.old ≡ at.bits }
+    ensures { left (ending result.success result.iters) output.new working.new [] ≡ finished_as i8 (ran_over i8 (flat_map run_edges runs.now) at.checks (at.bits - length llrs.now) llrs.now limit) (length working.old) 0 }
 {
-    let len = working.len();
-    let from = at.marginals;
-    let to = at.first;
-    fill(working, 0, len, 0);
-    let found = run_passes(working, marks, llrs, at, &triples[..used], limit);
-    pack(output, &working[from..to]);
-    fill(working, 0, len, 0);
+    working.fill(0);
+    let mut messages = Messages::new(working, marks, at, llrs, runs).unwrap();
+    let found = run_passes(&mut messages, limit);
+    pack(output, messages.marginals());
+    working.fill(0);
     found
 }
 
@@ -58,12 +58,13 @@ fn decode_code(
     working: &mut [i8],
     limit: usize,
 ) -> Ended
-    requires { Lent code (length llrs.now) (length output.old) (length working.old) × ((at ≡ layout_of code) × (marks.old ≡ replicate at.checks 0)) }
+    requires lent { Lent code (length llrs.now) (length output.old) (length working.old) }
+    requires laid { at ≡ layout_of code }
+    requires none { marks.old ≡ replicate at.checks 0 }
     ensures { left (ending result.success result.iters) output.new working.new [] ≡ finished_as i8 (decoded i8 code llrs.now limit) (length working.old) 0 }
 {
     let runs = runs_of(code);
-    let used = 3 * runs.count;
-    decode_runs(marks, &runs.triples, used, at, llrs, output, working, limit)
+    decode_runs(marks, runs.as_slice(), at, llrs, output, working, limit)
 }
 
 // The decoder on buffers of the right lengths. A byte for each check is its own; the sign buffer is only cleared.
@@ -80,7 +81,7 @@ fn decode(
 {
     let at = layout_of(code);
     let checks = at.checks;
-    bits::clear(working_u8);
+    working_u8.fill(0);
     if checks <= FEW_CHECKS {
         let mut few = [0u8; FEW_CHECKS];
         return decode_code(code, at, &mut few[..checks], llrs, output, working, limit);
@@ -102,19 +103,15 @@ pub fn decode_ms_i8(
     working: &mut [i8],
     working_u8: &mut [u8],
     limit: usize,
-) -> Report
-    ensures { left result output.new working.new working_u8.new ≡ decode_outcome i8 code llrs.now output.old working.old working_u8.old limit }
+) -> Result<Ended, Refusal>
+    ensures { left (report_of result) output.new working.new working_u8.new ≡ decode_outcome i8 code llrs.now output.old working.old working_u8.old limit }
 {
-    let answer = decode_refusal(
+    decode_refusal(
         code,
         llrs.len(),
         output.len(),
         working.len(),
         working_u8.len(),
-    );
-    if answer != ACCEPTED {
-        return refused(answer);
-    }
-    let found = decode(code, llrs, output, working, working_u8, limit);
-    finished(found.success, found.iters)
+    )?;
+    Ok(decode(code, llrs, output, working, working_u8, limit))
 }

@@ -1,12 +1,14 @@
 -- A frame that was encoded is encoded again to itself, and what the tests of both encoders tell. Assumes nothing.
-use mathlib.Core.Bool.{Bool, true, false, not}
+use mathlib.Core.Bool.{Bool, true}
 use mathlib.Core.List.{List}
-use mathlib.Core.Path.{◌≡◌, sym, ap, ◌∙◌}
+use mathlib.Core.Path.{◌≡◌, refl, sym, ap, ◌∙◌}
 use Prim.Native.Nat.{ℕ, ◌/◌}
-use borrow.Author.Rules.{rules}
-use borrow.Author.Tests.{not-true, eq-eqb}
+use borrow.Author.Tests.{eq-eqb}
 use lib.ListN.{length, take}
-use Rattle.maths.proofs.Tests.{never, denies}
+use Rattle.std.specs.Prelude.{Result, Ok, Err}
+use Rattle.std.specs.Result.{is_ok}
+use Rattle.codes.specs.declared.refusal.Refusal.{Refusal}
+use Rattle.codes.specs.Answers.{answer_of}
 use Rattle.codes.specs.Codes.{Known, row_of}
 use Rattle.codes.specs.Frames.{encoded_bytes}
 use Rattle.codes.proofs.Answers.{all_passed, passed_known, passed_length}
@@ -35,12 +37,6 @@ module _ (code : ℕ) (m s : List ℕ) where
     copied : w ≡ first.codeword
     copied = ap (λ (x : Encoded). x.codeword) e
 
-    pub copy_refused : (a ≡ 0 → ⊥) → EncodeCompared code m s want false w
-    copy_refused h = record { agrees = denies (λ p. h (answered ∙ ap (λ (x : Encoded). x.answer) p.copied)); left = copied }
-
-    pub copy_other : (b : Bool) → not b ≡ true → (b ≡ true → w ≡ want) × (w ≡ want → b ≡ true) → EncodeCompared code m s want false w
-    copy_other b f g = record { agrees = denies (λ p. never (not-true b f) (g.1 (copied ∙ ap (λ (x : Encoded). x.codeword) p.copied))); left = copied }
-
     -- the first call was accepted, and the second one is made
     module _ (z : a ≡ 0) {b : ℕ} {v : List ℕ} (f : encoded b v ≡ encode_outcome code w) where
       again : encode_outcome code w ≡ encoded 0 w
@@ -48,9 +44,6 @@ module _ (code : ℕ) (m s : List ℕ) where
 
       same : v ≡ w
       same = ap (λ (x : Encoded). x.codeword) (f ∙ again)
-
-      pub again_refused : (b ≡ 0 → ⊥) → EncodeCompared code m s want false v
-      again_refused h = absurd (h (ap (λ (x : Encoded). x.answer) (f ∙ again)))
 
       pub again_told : {t : Bool} → (t ≡ true → v ≡ want) × (v ≡ want → t ≡ true) → EncodeCompared code m s want t v
       again_told g =
@@ -63,4 +56,7 @@ module _ (code : ℕ) (m s : List ℕ) where
             left = same ∙ copied;
           }
 
-pub ruleset encodings = (copy_refused, copy_other, again_refused, again_told, rules)
+-- a call that is not refused answers 0
+pub ok_answer : {A : Type 0} (r : Result A Refusal) → is_ok r ≡ true → answer_of r ≡ 0
+ok_answer (Ok x) h = refl
+ok_answer (Err why) h = cc

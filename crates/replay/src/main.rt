@@ -6,10 +6,9 @@
 mod list;
 mod operations;
 
-use cases::{Case, read_len, written_len};
-use codes::parity_iter::byte;
+use cases::{Case, HEAD, Operation, read_len, written_len};
 use codes::{CodeParams, MAX_SENT, params};
-use list::{filled, head, least};
+use list::{filled, head};
 use operations::{answers, bit_flipping, encoders, min_sum_i8, to_hard, to_llrs};
 use sheet_text::read::TEXT_ROOM;
 use std::fs::File;
@@ -25,31 +24,27 @@ fn run_case(
     want: &mut [u8],
     output: &mut [u8],
 ) -> bool {
-    if !filled(list, read) {
+    if !filled(list, read) || !filled(list, want) {
         return false;
     }
-    if !filled(list, want) {
-        return false;
-    }
-    let op = c.op;
-    match op {
-        1 => encoders(c, read, want, output),
-        2 => bit_flipping(c, row, read, want, output),
-        3 => min_sum_i8(c, row, read, want, output),
-        4 => to_llrs(c, read, want),
-        5 => to_hard(c, read, want, output),
-        6 => answers(read, want),
-        _ => false,
+    match c.op {
+        Operation::Encoders => encoders(c, read, want, output),
+        Operation::BitFlipping => bit_flipping(c, row, read, want, output),
+        Operation::MinSum => min_sum_i8(c, row, read, want, output),
+        Operation::HardToLlrs => to_llrs(c, read, want),
+        Operation::LlrsToHard => to_hard(c, read, want, output),
+        Operation::Sheet => answers(read, want),
     }
 }
 
+// Whether the library does what a case records.
 fn agrees(list: &mut impl Read, c: Case) -> bool {
-    let mut read = [0u8; TEXT_ROOM];
-    let mut want = [0u8; MAX_SENT];
-    let mut output = [0u8; MAX_SENT];
-    let row = params(c.code).row;
-    let r = least(read_len(c, row), TEXT_ROOM);
-    let w = least(written_len(c, row), MAX_SENT);
+    let mut read = [0; TEXT_ROOM];
+    let mut want = [0; MAX_SENT];
+    let mut output = [0; MAX_SENT];
+    let row = params(c.code).unwrap_or_default();
+    let r = read_len(c, row).min(TEXT_ROOM);
+    let w = written_len(c, row).min(MAX_SENT);
     run_case(
         list,
         c,
@@ -60,31 +55,29 @@ fn agrees(list: &mut impl Read, c: Case) -> bool {
     )
 }
 
-fn say(rt: &impl Print, n: usize, what: &str) -> io::Result<()> {
-    print!(rt; "{n}{what}")
-}
-
-// Whether the list goes on after the case numbered i; a head of zeros ends it.
+// Whether the list goes on after the case numbered i; a head of zeros ends it. A number of no operation differs from what is recorded.
 fn goes_on(rt: &impl Print, list: &mut impl Read, i: usize) -> io::Result<bool> {
-    let c = head(list);
-    if c.op == 0 {
-        say(rt, i, " cases, no difference\n")?;
+    let bytes: [u8; HEAD] = head(list);
+    let [op, code, ..] = bytes;
+    if op == 0 {
+        println!(rt; "{i} cases, no difference")?;
         return Ok(false);
     }
-    if agrees(list, c) {
-        return Ok(true);
+    let agreed = match Case::try_from(bytes) {
+        Ok(c) => agrees(list, c),
+        Err(_) => false,
+    };
+    if !agreed {
+        println!(rt; "{i} cases agree, the next differs: operation {op}, code {code}")?;
     }
-    say(rt, i, " cases agree, the next differs: operation ")?;
-    say(rt, byte(c.op), ", code ")?;
-    say(rt, c.code, "\n")?;
-    Ok(false)
+    Ok(agreed)
 }
 
 // No list is longer than a million cases.
 fn run_list(rt: &impl Print, list: &mut impl Read) -> io::Result<()> {
     for i in 0..1000000 {
         if !goes_on(rt, list, i)? {
-            return Ok(());
+            break;
         }
     }
     Ok(())

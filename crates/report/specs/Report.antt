@@ -1,5 +1,8 @@
 -- The two kinds of report, what a report says in numbers, and what a decoder tells. Assumes nothing.
-use Rattle.std.specs.Prelude.{Bool, true, false, List, ℕ}
+use Rattle.std.specs.Prelude.{Bool, true, false, List, ℕ, Result, Ok, Err}
+use Rattle.codes.specs.declared.refusal.Refusal.{Refusal}
+use Rattle.codes.specs.Answers.{number}
+use Rattle.report.specs.declared.Ended.{Ended}
 use Rattle.report.specs.declared.Report.{Report}
 
 -- "A refusal says success false, iterations 0"
@@ -8,6 +11,11 @@ refusal n = record { answer = n; success = false; iters = 0 }
 
 abbrev pub ending : Bool → ℕ → Report
 ending b n = record { answer = 0; success = b; iters = n }
+
+-- what a decoder answers, in numbers
+abbrev pub report_of : Result Ended Refusal → Report
+report_of (Ok e) = ending e.success e.iters
+report_of (Err why) = refusal (number why)
 
 -- a report with another success, and with another number of iterations
 abbrev pub saying : Bool → Report → Report

@@ -1,9 +1,9 @@
 -- No bit of a code has many edges: a block has at most four of one bit, and six blocks stand in one column. Assumes nothing.
-use Rattle.std.proofs.Common.{◌≡◌, ℕ, zero, suc, ◌+◌, ◌-◌, ◌*◌, ◌/◌, ◌%◌, ◌<◌, ◌≤◌, Bool, true, false, T, eqb, ltb, leb, List, [], ◌∷◌, ◌++◌, length, get_or, refl, ap, ◌∙◌, subst, mul-le-mul_right, mod-lt, suc-mul, div-add-mod', arith, ltb→lt, leb→le, length-append, le-ltb, eq-eqb, ne_eqb}
+use Rattle.std.proofs.Common.{sym, ◌≡◌, ℕ, zero, suc, ◌+◌, ◌-◌, ◌*◌, ◌/◌, ◌%◌, ◌<◌, ◌≤◌, Bool, true, false, T, eqb, ltb, leb, List, [], ◌∷◌, ◌++◌, length, get_or, refl, ap, ◌∙◌, subst, mul-le-mul_right, mod-lt, suc-mul, div-add-mod', arith, ltb→lt, leb→le, length-append, le-ltb, eq-eqb, ne_eqb}
 use mathlib.Core.List.{flat_map}
 use native.Mathlib.Decide.{ℕ_discrete, dec_lt}
 use Rattle.maths.specs.Tests.{pick, both, all, below}
-use Rattle.maths.specs.Lists.{span}
+use Rattle.maths.specs.Lists.{span, keep}
 use Rattle.maths.proofs.Tests.{both_left, both_right, below_at}
 use Rattle.maths.proofs.Lists.{flat_map_cons, flat_map_append}
 use Rattle.codes.specs.declared.parity_iter.Place.{Place}
@@ -13,7 +13,8 @@ use Rattle.tables.specs.Tables.{prototypes}
 use Rattle.codes.specs.Codes.{codes, Known, tables, Matrix, matrix_of}
 use Rattle.codes.specs.Blocks.{block_of, block_at, cell_blocks, row_blocks, last_rows}
 use Rattle.codes.specs.Edges.{Edge, edge, blocks_of, edges}
-use Rattle.runs.specs.Runs.{Run, run, run_edges, turned_runs, quarter, quarters, runs_at, block_runs, runs}
+use Rattle.runs.specs.declared.EdgeRun.{EdgeRun}
+use Rattle.runs.specs.Runs.{run, run_edges, turned_runs, quarter, quarters, runs_at, block_runs, runs, within, laid}
 use Rattle.codes.specs.Equations.{ends, check_of, bit_of, checks_of}
 use Rattle.codes.proofs.Codes.{sized}
 use Rattle.runs.proofs.Flat.{runs_flat}
@@ -90,18 +91,27 @@ unfolding run_edges
 run_few a b n v = few_wider 1 b n (omega arith) (omega arith) (omega arith) (lane_few a b 0 n v)
 
 -- ---- the runs of a list
-abbrev degree_in : List Run → ℕ → ℕ
+abbrev degree_in : List EdgeRun → ℕ → ℕ
 degree_in rs v = degree (flat_map run_edges rs) v
 
-degree_cons : (r : Run) (rs : List Run) (v : ℕ) → degree_in (r ∷ rs) v ≡ degree (run_edges r) v + degree_in rs v
+degree_cons : (r : EdgeRun) (rs : List EdgeRun) (v : ℕ) → degree_in (r ∷ rs) v ≡ degree (run_edges r) v + degree_in rs v
 degree_cons r rs v = ap (λ (es : List Edge). degree es v) (flat_map_cons run_edges r rs) ∙ degree_append (run_edges r) (flat_map run_edges rs) v
 
-degree_join : (rs qs : List Run) (v : ℕ) → degree_in (rs ++ qs) v ≡ degree_in rs v + degree_in qs v
+degree_join : (rs qs : List EdgeRun) (v : ℕ) → degree_in (rs ++ qs) v ≡ degree_in rs v + degree_in qs v
 degree_join rs qs v = ap (λ (es : List Edge). degree es v) (flat_map_append run_edges rs qs) ∙ degree_append (flat_map run_edges rs) (flat_map run_edges qs) v
 
 degree_nil : (v : ℕ) → degree_in [] v ≡ 0
 unfolding flat_map
 degree_nil v = refl
+
+-- fewer runs have no more
+kept_few : (f : EdgeRun → Bool) (rs : List EdgeRun) (v : ℕ) → degree_in (keep f rs) v ≤ degree_in rs v
+kept_few f [] v = omega arith
+kept_few f (r ∷ rs) v = go (f r) (kept_few f rs v)
+  where
+    go : (b : Bool) → degree_in (keep f rs) v ≤ degree_in rs v → degree_in (pick b (r ∷ keep f rs) (keep f rs)) v ≤ degree_in (r ∷ rs) v
+    go true h = omega (arith, degree_cons r (keep f rs) v, degree_cons r rs v)
+    go false h = omega (arith, degree_cons r rs v)
 
 -- ---- a turned identity has one edge of a bit, the quarters of a permutation at most one each
 turned_few : (a b turn size v : ℕ) → turn < size → Few 1 b size v (degree_in (turned_runs a b turn size) v)
@@ -238,3 +248,9 @@ few_edges code v = go (dec_lt code codes)
     go : Dec (code < codes) → degree (edges code) v ≤ 24
     go (yes h) = few_known code v h
     go (no h) = few_unknown code v (omega arith)
+
+pub few_laid : (code m n v : ℕ) → length (checks_of (laid m n (runs code)) v) ≤ 24
+unfolding laid
+few_laid code m n v =
+    let all : degree_in (runs code) v ≤ 24 = subst (λ (es : List Edge). degree es v ≤ 24) (sym (runs_flat code)) (few_edges code v) in
+    omega (arith, kept_few (within m n) (runs code) v)

@@ -1,18 +1,19 @@
 -- The runs of a code fit the list that holds them. Assumes nothing.
-use Rattle.std.proofs.Common.{◌≡◌, ℕ, ◌+◌, ◌-◌, ◌*◌, ◌≤◌, Bool, T, leb, List, [], ◌++◌, length, replicate, refl, ◌∙◌, arith, leb→le, rules, ltb-false, le-ltb, lt-ltb}
+use Rattle.std.proofs.Common.{◌≡◌, ℕ, ◌+◌, ◌<◌, ◌≤◌, Bool, T, leb, List, [], length, refl, ap, arith, leb→le, ltb-false, le-ltb, lt-ltb}
 use mathlib.Core.List.{flat_map}
 use Rattle.maths.specs.Tests.{below}
 use Rattle.maths.proofs.Tests.{below_at}
-use Rattle.maths.proofs.Stores.{sets_replicate}
+use native.Mathlib.Decide.{dec_lt}
 use Rattle.tables.specs.Tables.{prototypes, thetas, phis}
-use Rattle.codes.specs.declared.ParamsAnswer.{ParamsAnswer}
+use Rattle.std.specs.Prelude.{Ok, Err}
+use Rattle.codes.specs.declared.CodeParams.{CodeParams}
+use Rattle.codes.specs.declared.refusal.Refusal.{Refusal}
 use Rattle.codes.specs.Codes.{codes, Known, rows, tables, params_of, made, matrix_of, prototype_of, phi_of}
 use Rattle.codes.specs.Blocks.{block_of, cell_blocks, row_blocks, last_rows, blocks}
 use Rattle.codes.specs.Edges.{blocks_of}
-use Rattle.runs.specs.Runs.{Run, turned_runs, quarter, quarters, block_runs, runs, numbers, room, runs_of, Stored}
+use Rattle.runs.specs.Runs.{turned_runs, quarter, quarters, block_runs, runs, room}
 use Rattle.runs.specs.Sound.{RunsFit}
 use Rattle.codes.proofs.Codes.{sized, block_small, asked_unknown, asked_known}
-use Rattle.runs.proofs.Stored.{numbers_length}
 
 pub runs_known : (code : ℕ) → Known code → runs code ≡ flat_map (block_runs (matrix_of code)) (blocks (prototype_of code))
 unfolding runs blocks_of
@@ -38,31 +39,20 @@ fills code h =
       few = leb→le _ room (below_at codes few_test tested code h);
     }
 
--- the list as it was before the first run, and as it is after them all
-pub filled : (ds : List Run) {l : List ℕ} {t : ℕ} → length ds ≤ room → Stored (replicate (3 * room) 0) 0 ds l t → l ≡ numbers ds ++ replicate (3 * (room - length ds)) 0
-filled ds few s =
-    let n = numbers_length ds in
-    let e : 3 * room - length (numbers ds) ≡ 3 * (room - length ds) = omega arith in
-    s.is ∙ sets_replicate (numbers ds) (3 * room) 0 (omega arith) ∙ rw e
+module _ (code : ℕ) where
+  pub runs_none : {why : Refusal} → Err why ≡ params_of code → [] ≡ runs code
+  runs_none e = rw (runs_unknown code (ltb-false code codes (asked_unknown code e).0))
 
-module _ (code : ℕ) (p : ParamsAnswer) (e : p ≡ params_of code) where
-  pub runs_none : (p.answer ≡ 0 → ⊥) → record { count = 0; triples = replicate (3 * room) 0 } ≡ runs_of code
-  unfolding numbers
-  runs_none h = rw (runs_unknown code (ltb-false code codes (asked_unknown code e h).0))
+  module _ {row : CodeParams} (e : Ok row ≡ params_of code) (phi : List (List ℕ)) (H : List (List (List ℕ))) (ef : phi ≡ phi_of code) (eh : H ≡ prototype_of code) where
+    pub runs_fitting : RunsFit (made row.submatrix_size thetas phi H)
+    runs_fitting = let k = asked_known code e in rw (ef, eh, k.1) (fills code k.0)
 
-  module _ (h : p.answer ≡ 0) (phi : List (List ℕ)) (H : List (List (List ℕ))) (ef : phi ≡ phi_of code) (eh : H ≡ prototype_of code) where
-    pub runs_fitting : RunsFit (made p.row.submatrix_size thetas phi H)
-    runs_fitting = rw (ef, eh, e) (fills code (asked_known code e h))
+    pub runs_filled : flat_map (block_runs (made row.submatrix_size thetas phi H)) (blocks H) ≡ runs code
+    runs_filled = let k = asked_known code e in rw (ef, eh, k.1, runs_known code k.0)
 
-    pub runs_filled : (l : List ℕ) (t : ℕ) → Stored (replicate (3 * room) 0) 0 (flat_map (block_runs (made p.row.submatrix_size thetas phi H)) (blocks H)) l t
-        → record { count = t; triples = l } ≡ runs_of code
-    runs_filled l t s =
-        let k = asked_known code e h in
-        let ds = flat_map (block_runs (matrix_of code)) (blocks (prototype_of code)) in
-        let few = (fills code k).few in
-        let g = rw (ef, eh, e) at s in
-        let f = filled ds (omega arith) g in
-        let n : t ≡ length ds = omega (arith, g.count) in
-        rw (runs_known code k, f, n)
-
-pub ruleset listing = (runs_none, runs_fitting, runs_filled, rules)
+pub runs_few : (code : ℕ) → length (runs code) ≤ room
+runs_few code = go (dec_lt code codes)
+  where
+    go : Dec (code < codes) → length (runs code) ≤ room
+    go (yes h) = omega (arith, ap length (runs_known code h), (fills code h).few)
+    go (no h) = rw (runs_unknown code (omega arith)) (omega arith)

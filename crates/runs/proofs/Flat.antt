@@ -16,15 +16,16 @@ use Rattle.codes.specs.Codes.{codes, Known, rows, tables, bits_in, checks_in, Ma
 use Rattle.codes.specs.Blocks.{block_of, block_at, cell_blocks, row_blocks, last_rows}
 use Rattle.codes.specs.Edges.{Edge, edge, in_range, column_of, permutation_column, edge_at, block_edges, blocks_of, edges}
 use Rattle.codes.specs.Walk.{solid}
-use Rattle.runs.specs.Runs.{Run, run, run_edges, turned_runs, quarter, quarters, runs_at, block_runs, runs, within}
+use Rattle.runs.specs.declared.EdgeRun.{EdgeRun}
+use Rattle.runs.specs.Runs.{run, run_edges, turned_runs, quarter, quarters, runs_at, block_runs, runs, within}
 use Rattle.codes.proofs.Codes.{sized}
 
 -- a run, and two runs
-one_run : (r : Run) → flat_map run_edges (r ∷ []) ≡ run_edges r
+one_run : (r : EdgeRun) → flat_map run_edges (r ∷ []) ≡ run_edges r
 unfolding flat_map
 one_run r = append-nil (run_edges r)
 
-two_runs : (r s : Run) → flat_map run_edges (r ∷ s ∷ []) ≡ run_edges r ++ run_edges s
+two_runs : (r s : EdgeRun) → flat_map run_edges (r ∷ s ∷ []) ≡ run_edges r ++ run_edges s
 two_runs r s = flat_map_cons run_edges r (s ∷ []) ∙ ap (λ (es : List Edge). run_edges r ++ es) (one_run s)
 
 -- the edges of a turned identity
@@ -146,7 +147,7 @@ pub runs_within : (code : ℕ) → Known code → T (all (within (checks_in code
 runs_within = below_at codes (λ code. all (within (checks_in code) (bits_in code)) (runs code)) all_within
 
 -- the edges of a run that lies within are in range
-pub run_ranged : (m n : ℕ) (r : Run) → T (within m n r) → T (all (in_range m n) (run_edges r))
+pub run_ranged : (m n : ℕ) (r : EdgeRun) → T (within m n r) → T (all (in_range m n) (run_edges r))
 unfolding run_edges
 run_ranged m n r t =
     let a = leb→le (r.check + r.size) m (both_left (leb (r.check + r.size) m) (leb (r.bit + r.size) n) t) in

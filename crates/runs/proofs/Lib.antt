@@ -1,7 +1,6 @@
-pub mod Stored
+pub mod Counts
 pub mod Filling
 pub mod Filled
-pub mod Lent
 pub mod Flat
 pub mod Sweep
 pub mod Tally

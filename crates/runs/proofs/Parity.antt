@@ -8,20 +8,16 @@ use Rattle.maths.proofs.Lists.{keep_all, keep_holds}
 use Rattle.maths.proofs.Slices.{largest_none, lent_long, lent_full}
 use Rattle.bits.specs.Packed.{unpacked}
 use Rattle.bits.proofs.Packed.{unpacked_word}
-use Rattle.runs.specs.declared.Runs.{Runs}
+use Rattle.runs.specs.declared.EdgeRun.{EdgeRun}
 use Rattle.codes.specs.declared.CodeParams.{CodeParams}
-use Rattle.codes.specs.declared.ParamsAnswer.{ParamsAnswer}
-use Rattle.codes.specs.Answers.{test, first_of, or_test, unlike}
-use Rattle.codes.specs.Codes.{Known, row_of, params_of, bits_in, checks_in, max_bits, max_checks}
+use Rattle.codes.specs.Codes.{Known, row_of, bits_in, checks_in, max_bits, max_checks}
 use Rattle.codes.specs.Edges.{Edge, in_range, edges}
-use Rattle.runs.specs.Runs.{run_edges, runs, numbers, runs_of, read_runs, within, laid}
+use Rattle.runs.specs.Runs.{run_edges, runs, within, laid}
 use Rattle.codes.specs.Equations.{par, Hold, Meets, word_of}
-use Rattle.runs.specs.Meets.{holds, none_broken, meets_test, syndrome_of, meet_tests, met_of, Accepted}
-use Rattle.codes.proofs.Answers.{answered, all_passed, passed_known, passed_length}
+use Rattle.runs.specs.Meets.{holds, none_broken, meets_test, syndrome_of, met_of, Accepted}
 use Rattle.codes.proofs.Codes.{roomy}
 use Rattle.codes.proofs.Bounds.{row_bounded, bounds}
 use Rattle.runs.proofs.Flat.{runs_flat, runs_within, run_ranged}
-use Rattle.runs.proofs.Lent.{read_numbers, runs_fit, runs_room, runs_taken}
 
 -- ---- the test and what it says
 pub holds_hold : (es : List Edge) (m : ℕ) (w : ℕ → ℕ) → holds es m w ≡ true → Hold es m w
@@ -37,24 +33,24 @@ none_broken_lem es m w = largest_none (λ a. par es w a % 2) m
 
 -- ---- the runs of a code
 -- they all lie within, and are its edges
-pub laid_runs : (code : ℕ) → Known code → laid (checks_in code) (bits_in code) (numbers (runs code)) ≡ edges code
+pub laid_runs : (code : ℕ) → Known code → laid (checks_in code) (bits_in code) (runs code) ≡ edges code
 unfolding laid
-laid_runs code h = rw (read_numbers (runs code), keep_all (within (checks_in code) (bits_in code)) (runs code) (runs_within code h)) (runs_flat code)
+laid_runs code h = rw (keep_all (within (checks_in code) (bits_in code)) (runs code) (runs_within code h)) (runs_flat code)
 
 -- the edges of runs that lie within are in range
-pub laid_ranged : (m n : ℕ) (ns : List ℕ) → T (all (in_range m n) (laid m n ns))
+pub laid_ranged : (m n : ℕ) (rs : List EdgeRun) → T (all (in_range m n) (laid m n rs))
 unfolding laid
-laid_ranged m n ns = all_flat_map (within m n) (in_range m n) run_edges (keep (within m n) (read_runs ns)) (keep_holds (within m n) (read_runs ns)) (run_ranged m n)
+laid_ranged m n rs = all_flat_map (within m n) (in_range m n) run_edges (keep (within m n) rs) (keep_holds (within m n) rs) (run_ranged m n)
 
 -- n zeros of an array that holds k of them
 abbrev pub zeros : ℕ → ℕ → List ℕ
 zeros k n = take n (replicate k 0)
 
 -- ---- what the functions find
-pub met_by : (ns word bits bits' checks : List ℕ) (m n n' r : ℕ) → r ≡ largest_of checks → checks ≡ syndrome_of (laid m n' ns) m (word_of bits') → bits' ≡ unpacked word bits → n' ≡ n
-    → eqb r 0 ≡ none_broken (laid m n ns) m (word_of (unpacked word bits))
+pub met_by : (rs : List EdgeRun) (word bits bits' checks : List ℕ) (m n n' r : ℕ) → r ≡ largest_of checks → checks ≡ syndrome_of (laid m n' rs) m (word_of bits') → bits' ≡ unpacked word bits → n' ≡ n
+    → eqb r 0 ≡ none_broken (laid m n rs) m (word_of (unpacked word bits))
 unfolding none_broken
-met_by ns word bits bits' checks m n n' r er ec eb en = rw (er, ec, eb, en)
+met_by rs word bits bits' checks m n n' r er ec eb en = rw (er, ec, eb, en)
 
 -- ---- the row of a code
 module _ (code : ℕ) (row : CodeParams) (is : row ≡ row_of code) where
@@ -65,38 +61,18 @@ module _ (code : ℕ) (row : CodeParams) (is : row ≡ row_of code) where
   bits_lent : length (zeros max_bits (row.n + row.punctured_bits)) ≡ bits_in code
   bits_lent = sym (lent_full max_bits 0 _ (row_bounded code row is).bits) ∙ rw is
 
-pub code_met : (code : ℕ) (row : CodeParams) (word : List ℕ) (q : Runs) (r : Bool) → Accepted code row (length word) → q ≡ runs_of code
+pub code_met : (code : ℕ) (row : CodeParams) (word : List ℕ) (q : List EdgeRun) (r : Bool) → Accepted code row (length word) → q ≡ runs code
     → (let checks = zeros max_checks (row.n + row.punctured_bits - row.k) in
     let bits = zeros max_bits (row.n + row.punctured_bits) in
-    r ≡ none_broken (laid (length checks) (length bits) (take (3 * q.count) q.triples)) (length checks) (word_of (unpacked word bits))) → r ≡ meets_test code (bit_at word)
+    r ≡ none_broken (laid (length checks) (length bits) q) (length checks) (word_of (unpacked word bits))) → r ≡ meets_test code (bit_at word)
 unfolding meets_test none_broken
 code_met code row word q r a eq er =
     let n = row.n + row.punctured_bits in
     let l = bits_lent code row a.is_row in
     let w : word_of (unpacked word (zeros max_bits n)) ≡ bit_at word = unpacked_word word (zeros max_bits n) (omega (arith, a.long, l, (roomy code a.known).whole)) in
-    er ∙ rw (w, l, checks_lent code row a.is_row max_checks (row_bounded code row a.is_row).checks, runs_taken code q eq, laid_runs code a.known) (none_broken_lem (edges code) (checks_in code) (bit_at word))
+    er ∙ rw (w, l, checks_lent code row a.is_row max_checks (row_bounded code row a.is_row).checks, eq, laid_runs code a.known) (none_broken_lem (edges code) (checks_in code) (bit_at word))
 
-pub ruleset meeting = (runs_fit, runs_room, lent_long, lent_full, bounds, met_by, code_met, rules)
-
--- ---- the answer
-module _ (code : ℕ) (word : List ℕ) (p : ParamsAnswer) (a : ℕ) (t : a ≡ or_test p.answer (test (unlike (length word) p.row.output_len) 2)) (e : p ≡ params_of code) where
-  met_answer : a ≡ first_of (meet_tests code (length word))
-  met_answer = t ∙ rw e (answered (meet_tests code (length word)) tt)
-
-  pub met_refused : (a ≡ 0 → ⊥) → record { answer = a; met = false } ≡ met_of code word
-  unfolding met_of
-  met_refused h = rw (← met_answer, ne_eqb a 0 h)
-
-  pub met_accepted : a ≡ 0 → Accepted code p.row (length word)
-  met_accepted z =
-      let q = all_passed (meet_tests code (length word)) tt (rw met_answer at z) in
-      record { known = passed_known code q.0; is_row = rw e; long = passed_length (length word) (row_of code).output_len q.1.0 }
-
-  pub met_found : (r : Bool) → a ≡ 0 → r ≡ meets_test code (bit_at word) → record { answer = a; met = r } ≡ met_of code word
-  unfolding met_of
-  met_found r z m = rw (← met_answer, z, m)
-
-pub ruleset answering = (met_refused, met_accepted, met_found, rules)
+pub ruleset meeting = (lent_long, lent_full, bounds, met_by, code_met, rules)
 
 -- "met" says that the word is one of the code's and meets every equation
 module _ (code : ℕ) (word : List ℕ) where

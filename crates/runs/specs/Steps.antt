@@ -3,7 +3,8 @@ use Rattle.std.specs.Prelude.{ℕ, ◌+◌, ◌%◌, List, slice_index, slice_se
 use Rattle.maths.specs.Tests.{pick}
 use Rattle.maths.specs.Lists.{fold}
 use Rattle.codes.specs.Edges.{Edge}
-use Rattle.runs.specs.Runs.{Run, run_edges, within}
+use Rattle.runs.specs.declared.EdgeRun.{EdgeRun}
+use Rattle.runs.specs.Runs.{run_edges, within}
 use Rattle.codes.specs.Equations.{check_of, bit_of}
 
 -- what stands at an edge's near end becomes f of that and of g at its far end
@@ -11,7 +12,7 @@ unfoldable pub put : (Edge → ℕ) → (Edge → ℕ) → (ℕ → ℕ → ℕ)
 put near far f g e acc = slice_set acc (near e) (f (slice_index acc (near e)) (g (far e)))
 
 -- the edges of a run in turn, where it lies within m checks and n bits
-unfoldable pub over_run : {S : Type 0} → ℕ → ℕ → (Edge → S → S) → Run → S → S
+unfoldable pub over_run : {S : Type 0} → ℕ → ℕ → (Edge → S → S) → EdgeRun → S → S
 over_run m n step r s = pick (within m n r) (fold step (run_edges r) s) s
 
 -- a sum modulo 2

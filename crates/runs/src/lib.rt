@@ -2,242 +2,211 @@
 
 #![tactic(auto)]
 
-ghost use Rattle.std.specs.Prelude.{◌≡◌, ◌+◌, ◌*◌, ◌/◌, ◌<◌, ◌≤◌, [], ◌∷◌, slice_index_or};
-ghost use mathlib.Core.List.{flat_map};
-ghost use Rattle.codes.specs.declared.parity_iter.Block.TheVariants.{Permutation};
-ghost use Rattle.codes.specs.Codes.{made};
-ghost use Rattle.codes.specs.Blocks.{blocks};
-ghost use Rattle.runs.specs.Runs.{run, within, turned_runs, quarter, quarters, runs_at, block_runs, runs_of, read_runs, room, Stored};
-ghost use Rattle.runs.specs.Sound.{TurnFits, QuarterFits, BlockFits, PlaceFits, RunsFit};
+ghost use Rattle.std.specs.Prelude.{◌≡◌};
+ghost use Rattle.runs.specs.Runs.{runs};
 
-use codes::parity_iter::{
-    Bit, Block, Check, Found, Place, block_of, byte, first_block, next_block, wide,
-};
-use codes::{ACCEPTED, params, phi_of, prototype_of};
+use codes::parity_iter::{Block, Place, first_block, next_block};
+use codes::{params, phi_of, prototype_of};
+use std::marker::Model;
 use tables::compact_parity_checks::THETA_K;
 
 pub mod meets;
+pub mod steps;
 
-// Room for the runs of any code, three numbers each.
-pub const TRIPLES: usize = 792;
+// No code has more runs.
+pub const MAX_RUNS: usize = 264;
 
-// The runs of a code, count of them, three numbers each: the first check, the first bit, and how many edges (check + i, bit + i) there are.
-#[derive(Clone, Copy)]
-pub struct Runs {
-    pub count: usize,
-    pub triples: [u16; TRIPLES],
-}
-
-// One run: its first check, its first bit, and how many edges it has.
-#[derive(Clone, Copy)]
+// One run: its first check, its first bit, and how many edges (check + i, bit + i) it has. Runs are read over and over, and this is a third of
+// what three usize take.
+#[derive(Clone, Copy, Debug, Default, PartialEq, Eq)]
 pub struct EdgeRun {
-    pub check: Check,
-    pub bit: Bit,
-    pub size: usize,
+    pub check: u16,
+    pub bit: u16,
+    pub size: u16,
 }
 
-fn put_run(triples: &mut [u16; TRIPLES], t: usize, check: Check, bit: Bit, size: usize) -> usize
-    requires { (t < room) × ((check.0 < 65536) × ((bit.0 < 65536) × (size < 65536))) }
-    ensures { Stored triples.old t (run check.0 bit.0 size ∷ []) triples.new result }
-{
-    triples[3 * t] = check.0 as u16;
-    triples[3 * t + 1] = bit.0 as u16;
-    triples[3 * t + 2] = size as u16;
-    t + 1
+impl EdgeRun {
+    ghost use Rattle.std.specs.Prelude.{◌≡◌};
+    ghost use Rattle.runs.specs.Runs.{within, turned};
+
+    // Whether the run lies within so many checks and bits.
+    pub fn lies_within(self, checks: usize, bits: usize) -> bool
+        ensures { result ≡ within checks bits self }
+    {
+        usize::from(self.check) + usize::from(self.size) <= checks
+            && usize::from(self.bit) + usize::from(self.size) <= bits
+    }
+
+    // Its bits in the place of its checks, and its checks in that of its bits.
+    fn turned(self) -> EdgeRun
+        ensures { result ≡ turned self }
+    {
+        EdgeRun {
+            check: self.bit,
+            bit: self.check,
+            size: self.size,
+        }
+    }
 }
 
-// The edges of a turned identity: one run, or two.
-fn put_turned(
-    triples: &mut [u16; TRIPLES],
-    t: usize,
-    check: Check,
-    bit: Bit,
-    turn: usize,
+// What a parity check matrix is made of.
+#[derive(Clone, Copy)]
+struct Matrix<'a> {
     size: usize,
-) -> usize
-    requires { TurnFits t check.0 bit.0 turn size }
-    ensures { Stored triples.old t (turned_runs check.0 bit.0 turn size) triples.new result }
-{
-    if turn == 0 {
-        return put_run(triples, t, check, bit, size);
+    theta: &'a [u8; 26],
+    phi: &'a [[u16; 26]; 4],
+    prototype: &'a [[[u8; 11]; 4]; 3],
+}
+
+// A list of runs.
+#[derive(Drop)]
+pub struct Runs {
+    count: usize,
+    list: [EdgeRun; MAX_RUNS],
+}
+
+impl Model for Runs {
+    ghost use Rattle.std.specs.Prelude.{List, take, ◌≤◌};
+    ghost use Rattle.runs.specs.declared.EdgeRun.{EdgeRun};
+
+    ghost Value = { List EdgeRun };
+
+    ghost view = { λ r. take r.count r.list };
+
+    ghost invariant = { λ r. r.count ≤ 264 };
+}
+
+impl Runs {
+    ghost use Rattle.std.specs.Prelude.{◌≡◌, ◌<◌, ◌≤◌, ◌+◌, ◌∷◌, ◌++◌, [], length};
+    ghost use mathlib.Core.List.{flat_map};
+    ghost use Rattle.codes.specs.declared.parity_iter.Block.TheVariants.{Permutation};
+    ghost use Rattle.codes.specs.Blocks.{blocks};
+    ghost use Rattle.runs.specs.Runs.{turned_runs, quarter, quarters, runs_at, block_runs, room, made_of};
+    ghost use Rattle.runs.specs.Sound.{TurnFits, QuarterFits, BlockFits, PlaceFits, RunsFit};
+
+    fn new() -> Runs
+        ensures { result ≡ [] }
+    {
+        Runs {
+            count: 0,
+            list: [EdgeRun::default(); MAX_RUNS],
+        }
     }
-    let left = size - turn;
-    let u = put_run(triples, t, Check(check.0), Bit(bit.0 + turn), left);
-    put_run(triples, u, Check(check.0 + left), bit, turn)
-}
 
-// Less than four times a quarter, without a product of two unknowns.
-fn times(j: usize, q: usize) -> usize
-    requires { (j < 4) × (q < 65536) }
-    ensures { (result ≡ j * q) × (result ≤ 3 * q) }
-{
-    j * q
-}
-
-// A quarter of a permutation, a turned identity.
-fn put_quarter(
-    triples: &mut [u16; TRIPLES],
-    t: usize,
-    check: Check,
-    bit: Bit,
-    value: usize,
-    m: usize,
-    theta: &[u8; 26],
-    phi: &[[u16; 26]; 4],
-    j: usize,
-) -> usize
-    requires { QuarterFits t check.0 bit.0 m value j }
-    ensures { Stored triples.old t (quarter m theta.now phi.now value check.0 bit.0 j) triples.new result }
-{
-    let q = m / 4;
-    let turn = byte(theta[value]);
-    let x = check.0 + times(j, q);
-    let y = bit.0 + times((turn + j) % 4, q);
-    let s = wide(phi[j][value]) % q;
-    put_turned(triples, t, Check(x), Bit(y), s, q)
-}
-
-fn put_quarters(
-    triples: &mut [u16; TRIPLES],
-    t: usize,
-    check: Check,
-    bit: Bit,
-    value: usize,
-    m: usize,
-    theta: &[u8; 26],
-    phi: &[[u16; 26]; 4],
-) -> usize
-    requires { BlockFits t check.0 bit.0 m (Permutation value) }
-    ensures { Stored triples.old t (quarters m theta.now phi.now value check.0 bit.0 4) triples.new result }
-{
-    let mut u = t;
-    for j in 0..4 {
-        u = put_quarter(triples, u, check, bit, value, m, theta, phi, j);
+    pub fn as_slice(&self) -> &[EdgeRun]
+        ensures { result.now ≡ self.now }
+    {
+        &self.list[..self.count]
     }
-    u
-}
 
-fn put_block(
-    triples: &mut [u16; TRIPLES],
-    t: usize,
-    block: Block,
-    check: Check,
-    bit: Bit,
-    m: usize,
-    theta: &[u8; 26],
-    phi: &[[u16; 26]; 4],
-) -> usize
-    requires { BlockFits t check.0 bit.0 m block }
-    ensures { Stored triples.old t (runs_at m theta.now phi.now block check.0 bit.0) triples.new result }
-{
-    match block {
-        Block::Ends => t,
-        Block::Empty => t,
-        Block::Identity(v) => put_turned(triples, t, check, bit, v % m, m),
-        Block::Permutation(v) => put_quarters(triples, t, check, bit, v, m, theta, phi),
+    fn push(&mut self, run: EdgeRun)
+        requires { length self.old < room }
+        ensures { self.new ≡ self.old ++ run ∷ [] }
+    {
+        self.list[self.count] = run;
+        self.count += 1;
     }
-}
 
-fn put_place(
-    triples: &mut [u16; TRIPLES],
-    t: usize,
-    p: Place,
-    m: usize,
-    theta: &[u8; 26],
-    phi: &[[u16; 26]; 4],
-    h: &[[[u8; 11]; 4]; 3],
-) -> usize
-    requires { PlaceFits (made m theta.now phi.now h.now) t p }
-    ensures { Stored triples.old t (block_runs (made m theta.now phi.now h.now) p) triples.new result }
-{
-    let row = p.row;
-    let col = p.col;
-    let l = p.layer;
-    let block = block_of(h[l][row][col]);
-    put_block(
-        triples,
-        t,
-        block,
-        Check(row * m),
-        Bit(col * m),
-        m,
-        theta,
-        phi,
-    )
-}
+    // The edges of a turned identity: one run, or two.
+    fn push_turned(&mut self, run: EdgeRun, turn: u16)
+        requires { TurnFits (length self.old) run.check run.bit turn run.size }
+        ensures { self.new ≡ self.old ++ turned_runs run.check run.bit turn run.size }
+    {
+        if turn == 0 {
+            self.push(run);
+            return;
+        }
+        let left = run.size - turn;
+        self.push(EdgeRun {
+            check: run.check,
+            bit: run.bit + turn,
+            size: left,
+        });
+        self.push(EdgeRun {
+            check: run.check + left,
+            bit: run.bit,
+            size: turn,
+        });
+    }
 
-// The blocks are found as the walk finds them.
-fn fill(
-    triples: &mut [u16; TRIPLES],
-    m: usize,
-    theta: &[u8; 26],
-    phi: &[[u16; 26]; 4],
-    h: &[[[u8; 11]; 4]; 3],
-) -> usize
-    requires { RunsFit (made m theta.now phi.now h.now) }
-    ensures { Stored triples.old 0 (flat_map (block_runs (made m theta.now phi.now h.now)) (blocks h.now)) triples.new result }
-{
-    let mut t: usize = 0;
-    let mut found = first_block(h);
-    loop {
-        match found {
-            Found::At(p) => {
-                t = put_place(triples, t, p, m, theta, phi, h);
-                found = next_block(h, p);
-            }
-            Found::Nothing => return t,
+    // A quarter of a permutation, a turned identity. The block is given as the run of all its rows. (A cast of what is proved to fit, here and
+    // below: try_from would test it again.)
+    fn push_quarter(&mut self, matrix: &Matrix, block: EdgeRun, value: usize, j: usize)
+        requires { QuarterFits (length self.old) block.check block.bit block.size value j }
+        ensures { self.new ≡ self.old ++ quarter block.size matrix.now.theta.now matrix.now.phi.now value block.check block.bit j }
+    {
+        let q = block.size / 4;
+        let turn = (usize::from(matrix.theta[value]) + j) % 4;
+        let run = EdgeRun {
+            check: block.check + j as u16 * q,
+            bit: block.bit + turn as u16 * q,
+            size: q,
+        };
+        self.push_turned(run, matrix.phi[j][value] % q);
+    }
+
+    fn push_quarters(&mut self, matrix: &Matrix, block: EdgeRun, value: usize)
+        requires { BlockFits (length self.old) block.check block.bit block.size (Permutation value) }
+        ensures { self.new ≡ self.old ++ quarters block.size matrix.now.theta.now matrix.now.phi.now value block.check block.bit 4 }
+    {
+        // By number: a quarter's is added to theta's, and picks a row of phi.
+        for j in 0..4 {
+            self.push_quarter(matrix, block, value, j);
+        }
+    }
+
+    fn push_block(&mut self, matrix: &Matrix, block: EdgeRun, kind: Block)
+        requires { BlockFits (length self.old) block.check block.bit block.size kind }
+        ensures { self.new ≡ self.old ++ runs_at block.size matrix.now.theta.now matrix.now.phi.now kind block.check block.bit }
+    {
+        match kind {
+            Block::Ends => {}
+            Block::Empty => {}
+            Block::Identity(v) => self.push_turned(block, v as u16 % block.size),
+            Block::Permutation(v) => self.push_quarters(matrix, block, v),
+        }
+    }
+
+    fn push_place(&mut self, matrix: &Matrix, p: Place)
+        requires { PlaceFits (made_of matrix.now) (length self.old) p }
+        ensures { self.new ≡ self.old ++ block_runs (made_of matrix.now) p }
+    {
+        let m = matrix.size;
+        let block = EdgeRun {
+            check: (p.row * m) as u16,
+            bit: (p.col * m) as u16,
+            size: m as u16,
+        };
+        let kind = Block::from(matrix.prototype[p.layer][p.row][p.col]);
+        self.push_block(matrix, block, kind);
+    }
+
+    // The blocks are found as the walk finds them.
+    fn fill(&mut self, matrix: &Matrix)
+        requires { (self.old ≡ []) × RunsFit (made_of matrix.now) }
+        ensures { self.new ≡ flat_map (block_runs (made_of matrix.now)) (blocks matrix.now.prototype.now) }
+    {
+        let mut found = first_block(matrix.prototype);
+        while let Some(p) = found {
+            self.push_place(matrix, p);
+            found = next_block(matrix.prototype, p);
         }
     }
 }
 
 // The runs of a code; none where it is not known.
 pub fn runs_of(code: usize) -> Runs
-    ensures { result ≡ runs_of code }
+    ensures { result ≡ runs code }
 {
-    let mut triples = [0u16; TRIPLES];
-    let asked = params(code);
-    if asked.answer != ACCEPTED {
-        return Runs { count: 0, triples };
+    let mut runs = Runs::new();
+    if let Ok(row) = params(code) {
+        let matrix = Matrix {
+            size: row.submatrix_size,
+            theta: &THETA_K,
+            phi: &phi_of(code),
+            prototype: &prototype_of(code),
+        };
+        runs.fill(&matrix);
     }
-    let m = asked.row.submatrix_size;
-    let h = prototype_of(code);
-    let phi = phi_of(code);
-    let theta = THETA_K;
-    let count = fill(&mut triples, m, &theta, &phi, &h);
-    Runs { count, triples }
-}
-
-// Run number i of a list of triples; one without edges where there is none.
-pub fn run_at(triples: &[u16], i: usize) -> EdgeRun
-    ensures { run result.check.0 result.bit.0 result.size ≡ slice_index_or (read_runs triples.now) i (run 0 0 0) }
-{
-    if i < triples.len() / 3 {
-        EdgeRun {
-            check: Check(wide(triples[3 * i])),
-            bit: Bit(wide(triples[3 * i + 1])),
-            size: wide(triples[3 * i + 2]),
-        }
-    } else {
-        EdgeRun {
-            check: Check(0),
-            bit: Bit(0),
-            size: 0,
-        }
-    }
-}
-
-// Whether a run lies within so many checks and bits.
-pub fn lies_within(check: Check, bit: Bit, size: usize, checks: usize, bits: usize) -> bool
-    ensures { result ≡ within checks bits (run check.0 bit.0 size) }
-{
-    if size > checks {
-        return false;
-    }
-    if size > bits {
-        return false;
-    }
-    if check.0 > checks - size {
-        return false;
-    }
-    bit.0 <= bits - size
+    runs
 }

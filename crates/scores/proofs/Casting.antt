@@ -1,10 +1,11 @@
--- What a check's byte is after its erased bits are counted, what it votes, and how votes settle a bit; the votes over the runs of a list of numbers, for `search casting`. Assumes nothing.
+-- What a check's byte is after its erased bits are counted, what it votes, and how votes settle a bit; the votes over the runs of a list, for `search casting`. Assumes nothing.
 use Rattle.std.proofs.Common.{◌≡◌, ℕ, zero, suc, ◌+◌, ◌-◌, ◌*◌, ◌/◌, ◌%◌, ◌<◌, ◌≤◌, min, Bool, true, false, eqb, ltb, List, [], ◌∷◌, map, refl, ◌∙◌, arith, rules, le-ltb, lt-ltb, ne_eqb}
 use native.Mathlib.Decide.{ℕ_discrete, dec_lt}
 use Rattle.maths.specs.Tests.{pick, both}
 use Rattle.maths.specs.Lists.{fold}
 use Rattle.maths.specs.Sums.{sum_l}
 use Rattle.codes.specs.Equations.{word_of}
+use Rattle.runs.specs.declared.EdgeRun.{EdgeRun}
 use Rattle.runs.specs.Runs.{laid}
 use Rattle.runs.specs.Meets.{syndrome_of}
 use Rattle.runs.proofs.Tally.{into}
@@ -61,9 +62,9 @@ settle_one true y a n k l = go (dec_lt n a)
             rw (lt-ltb 0 (z / 4) p, le-ltb (z / 4) 32 q)
 
 -- ---- over the edges of those runs that lie within m checks and n bits
-pub cast_by : (ns b s₁ s₂ s₃ : List ℕ) (k m n : ℕ) → s₁ ≡ syndrome_of (laid m n ns) m (word_of b) → s₂ ≡ fold (count_erased (word_of b)) (laid k n ns) s₁ → s₃ ≡ map vote_byte s₂
-    → k ≡ m → s₃ ≡ cast_votes (laid m n ns) m b
+pub cast_by : (rs : List EdgeRun) (b s₁ s₂ s₃ : List ℕ) (k m n : ℕ) → s₁ ≡ syndrome_of (laid m n rs) m (word_of b) → s₂ ≡ fold (count_erased (word_of b)) (laid k n rs) s₁ → s₃ ≡ map vote_byte s₂
+    → k ≡ m → s₃ ≡ cast_votes (laid m n rs) m b
 unfolding cast_votes
-cast_by ns b s₁ s₂ s₃ k m n e₁ e₂ e₃ l = e₃ ∙ rw (e₂, e₁, l)
+cast_by rs b s₁ s₂ s₃ k m n e₁ e₂ e₃ l = e₃ ∙ rw (e₂, e₁, l)
 
 pub ruleset casting = (cast_by, rules)

@@ -1,3 +1,3 @@
 pub mod Rooms
-pub mod Answers
+pub mod Texts
 pub mod Requests

@@ -1,5 +1,5 @@
 -- The answer to a sheet, over what the library's own calls leave. Assumes nothing.
-use Rattle.std.specs.Prelude.{Bool, true, List, [], ℕ, ◌/◌, eqb, ℤ, pos, negsuc, replicate}
+use Rattle.std.specs.Prelude.{Option, Some, None, Bool, true, List, [], ℕ, ◌/◌, eqb, ℤ, pos, negsuc, replicate}
 use Rattle.maths.specs.Tests.{pick}
 use Rattle.codes.specs.Codes.{row_of}
 use Rattle.report.specs.declared.Report.{Report}
@@ -8,9 +8,9 @@ use Rattle.encoder.specs.Outcomes.{Encoded, copy_encode_outcome}
 use Rattle.bit_flip.specs.Outcome as flip
 use Rattle.min_sum.specs.Confidence.{i8}
 use Rattle.min_sum.specs.Outcomes as soft
+use Rattle.sheet_values.specs.declared.Op.{Op}
 use Rattle.sheet_values.specs.declared.Op.TheVariants.{Encode, Bf, Ms}
-use Rattle.sheet_text.specs.declared.read.Reading.TheVariants.{Malformed}
-use Rattle.sheet_text.specs.Reading.{Sheet, malformed, sheet, parse, text_number}
+use Rattle.sheet_text.specs.Reading.{Sheet, parse, text_number}
 use Rattle.sheet_text.specs.Printing.{printed}
 
 -- "Every accepted call prints all its output bytes .. success or not"; "a refusal prints its number, `success=0`, `iters=0`, `output=`"
@@ -69,11 +69,14 @@ abbrev pub soft_signs : ℕ
 soft_signs = 384
 
 -- "Anything else .. is 9"; `encode` "reads `maxiters` and doesn't use it"; 14 is tested before all that the library tests
-abbrev pub answer_to : Sheet → List ℕ
-answer_to malformed = reported (refusal (text_number Malformed)) []
-answer_to (sheet code Encode limit frame) = encode_sheet code frame
-answer_to (sheet code Bf limit frame) = bf_sheet code limit frame
-answer_to (sheet code Ms limit frame) = pick (too_large code) (reported (refusal no_room) []) (ms_sheet code limit frame)
+abbrev pub operation : Op → ℕ → ℕ → List ℕ → List ℕ
+operation Encode code limit frame = encode_sheet code frame
+operation Bf code limit frame = bf_sheet code limit frame
+operation Ms code limit frame = pick (too_large code) (reported (refusal no_room) []) (ms_sheet code limit frame)
+
+abbrev pub answer_to : Option Sheet → List ℕ
+answer_to None = reported (refusal (text_number None)) []
+answer_to (Some q) = operation q.op q.code q.limit q.frame
 
 abbrev pub sheet_of : List ℕ → List ℕ
 sheet_of text = answer_to (parse text)

@@ -3,46 +3,70 @@
 #![tactic(auto)]
 
 ghost use Rattle.std.specs.Prelude.{◌≡◌};
-ghost use Rattle.sheet_text.specs.Printing.{answer_of};
-ghost use Rattle.sheet.specs.Sheet.{sheet_of, answer_to};
-ghost use Rattle.sheet_text.specs.Reading.{sheet};
+ghost use Rattle.sheet.specs.Refused.{text_of};
+ghost use Rattle.sheet.specs.Sheet.{sheet_of};
 
 mod operations;
 
-use operations::{encode_frame, flip_frame, print_report, soft_frame};
-use report::refused;
-use sheet_text::print::Answer;
-use sheet_text::read::{Reading, read};
+use codes::refusal::Refusal;
+use operations::{encode, flip, soft};
+use report::Report;
+use sheet_text::print::{Answer, print};
+use sheet_text::read::read;
 use sheet_values::{Op, hex_bytes};
 
-// The text is no sheet.
-pub const MALFORMED: u8 = 9;
+// Why a sheet is refused: the text is none, it asks for min-sum of a code for which a sheet has no room, or the library refuses the call.
+#[derive(Clone, Copy, Debug, PartialEq, Eq)]
+pub enum Refused {
+    Malformed,
+    NoRoom,
+    By(Refusal),
+}
 
-// It asks for min-sum of a code for which a sheet has no room.
-pub const NO_ROOM: u8 = 14;
+impl Refused {
+    ghost use Rattle.sheet.specs.Refused.{number};
 
-fn answer_to(code: usize, op: Op, limit: usize, frame: &[u8]) -> Answer
-    ensures { result ≡ answer_of (answer_to (sheet code op limit frame.now)) }
-{
-    match op {
-        Op::Encode => encode_frame(code, frame),
-        Op::Bf => flip_frame(code, frame, limit),
-        Op::Ms => soft_frame(code, frame, limit),
+    pub fn number(self) -> u8
+        ensures { result ≡ number self }
+    {
+        match self {
+            Refused::Malformed => 9,
+            Refused::NoRoom => 14,
+            Refused::By(why) => why.number(),
+        }
     }
 }
 
-// The answer to a sheet, whatever the text.
-pub fn sheet(text: &[u8]) -> Answer
-    ensures { result ≡ answer_of (sheet_of text.now) }
+impl From<Refusal> for Refused {
+    ghost use Rattle.sheet.specs.declared.Refused.TheVariants.{By};
+
+    ghost from_gives = { λ why r. r ≡ By why };
+
+    fn from(why: Refusal) -> Self {
+        Refused::By(why)
+    }
+}
+
+fn answer(text: &[u8]) -> Result<Answer, Refused>
+    ensures { text_of result ≡ sheet_of text.now }
 {
-    let Reading::Asks(q) = read(text) else {
-        return print_report(refused(MALFORMED), &text[..0]);
-    };
-    let from = q.start;
-    let to = from + q.digits;
-    let n = q.digits / 2;
-    let op = q.op;
+    let q = read(text).ok_or(Refused::Malformed)?;
     let mut frame = [0u8; 4080];
-    hex_bytes(&text[from..to], &mut frame);
-    answer_to(q.code, op, q.limit, &frame[..n])
+    hex_bytes(q.frame, &mut frame);
+    let frame = &frame[..q.frame.len() / 2];
+    match q.op {
+        Op::Encode => encode(q.code, frame),
+        Op::Bf => flip(q.code, frame, q.limit),
+        Op::Ms => soft(q.code, frame, q.limit),
+    }
+}
+
+// The answer to a sheet, whatever the text; a refusal prints no output byte.
+pub fn sheet(text: &[u8]) -> Answer
+    ensures { result ≡ sheet_of text.now }
+{
+    match answer(text) {
+        Ok(printed) => printed,
+        Err(why) => print(Report::refused(why.number()), &[]),
+    }
 }

@@ -1,24 +1,21 @@
 -- Texts that are well-formed, texts that are not, and answers as they are printed. Assumes nothing.
-use mathlib.Core.Bool.{true, false}
-use mathlib.Core.List.{List, [], ◌∷◌, ◌++◌, append_assoc}
-use mathlib.Core.Path.{◌≡◌, refl, ◌∙◌}
-use Prim.Native.Nat.{ℕ, ◌<◌}
-use native.Mathlib.Omega.{arith}
-use borrow.Author.Tests.{lt-leb}
-use lib.ListN.{length, replicate}
+use Rattle.std.proofs.Common.{◌≡◌, true, false, ℕ, ◌<◌, List, [], ◌∷◌, ◌++◌, length, replicate, refl, ◌∙◌, append_assoc, arith}
+use Rattle.std.proofs.lemmas.Bool.{lt-leb}
 use Rattle.maths.specs.Tests.{all}
 use Rattle.sheet_values.specs.declared.Op.TheVariants.{Encode, Bf, Ms}
 use Rattle.sheet_values.specs.Spelling.{ascii, glyph, decimal_in, decimal, hex}
-use Rattle.sheet_values.specs.Values.{value_of, number_from, number_of, begins, hex_text, unhex}
+use Rattle.sheet_values.specs.Values.{value_of, number_from, hex_text, unhex}
 use Rattle.sheet_values.proofs.Decimals.{decimal_digit}
 use Rattle.sheet_text.specs.Text.{newline, line, longest}
-use Rattle.sheet_text.specs.Reading.{line_end, malformed, sheet, field, from_frame, from_limit, from_op, from_code, parse, unread}
+use Rattle.sheet_text.specs.Reading.{malformed, sheet, cut, parse, unread}
 use Rattle.sheet_text.specs.Printing.{printed}
-use Rattle.sheet_text.proofs.Fields.{lines_nested}
+
+lines_nested : (a b c d : List ℕ) → a ++ b ++ c ++ d ≡ a ++ (b ++ (c ++ d))
+lines_nested a b c d = simp append_assoc
 
 -- the document's sheet and its answer
 pub document_read : parse (ascii "code=0\nop=bf\nmaxiters=1\nframe=00000000000000000000000000000000\n") ≡ sheet 0 Bf 1 (replicate 16 0)
-unfolding value_of number_from number_of begins hex_text unhex line_end field from_frame from_limit from_op from_code parse
+unfolding value_of number_from hex_text unhex cut parse
 document_read = refl
 
 pub document_printed : printed 0 true 0 (replicate 16 0) ≡ ascii "answer=0\nsuccess=1\niters=0\noutput=00000000000000000000000000000000\n"
@@ -28,7 +25,7 @@ document_printed = refl
 -- codes that are not known and an empty frame are well-formed, and so is every limit up to the largest
 pub edges_read : (parse (ascii "code=9\nop=encode\nmaxiters=0\nframe=\n") ≡ sheet 9 Encode 0 [])
     × (parse (ascii "code=6\nop=ms\nmaxiters=4294967295\nframe=0f\n") ≡ sheet 6 Ms 4294967295 (15 ∷ []))
-unfolding value_of number_from number_of begins hex_text unhex line_end field from_frame from_limit from_op from_code parse
+unfolding value_of number_from hex_text unhex cut parse
 edges_read = (refl, refl)
 
 -- everything else is malformed
@@ -49,7 +46,7 @@ pub others_refused : all (λ s. unread (parse s)) (
     ascii "code=0\nop=bf\nmaxiters=01\n" ∷
     [])
     ≡ true
-unfolding value_of number_from number_of begins hex_text unhex line_end field from_frame from_limit from_op from_code parse
+unfolding value_of number_from hex_text unhex cut parse
 others_refused = refl
 
 -- a text that is too long, whatever stands in it

@@ -1,8 +1,6 @@
-pub mod Ends
-pub mod Lines
-pub mod Writes
+pub mod Digits
 pub mod Plain
-pub mod Fields
+pub mod Lines
 pub mod BothWays
 pub mod Parts
 pub mod Examples

@@ -1,196 +1,101 @@
--- A line at a place of the text is a line at the front of what is left there. Assumes nothing.
-use mathlib.Core.Bool.{Bool, true, false}
-use mathlib.Core.List.{List, [], ◌∷◌}
-use mathlib.Core.Path.{◌≡◌, refl, sym, ap, subst, ◌∙◌}
-use Prim.Native.Nat.{ℕ, suc, ◌+◌, ◌-◌, ◌*◌, ◌^◌, ◌≤◌, ◌<◌}
-use native.Mathlib.Nat.{add-sub_cancel_left}
-use native.Mathlib.Omega.{arith}
-use borrow.Author.Rules.{rules}
-use borrow.Author.Tests.{not-true, not-false, ltb-true, ltb-false, lt-ltb, le-ltb, le-leb, lt-leb, eq-eqb, ne_eqb}
-use lib.Dec.{ltb, eqb}
-use lib.ListN.{length, take, drop, length-drop}
-use lib.Seq.{drop-drop, take_all, length-take-le}
-use mir.Syntax.{w64}
-use mir.Val.{Fits}
-use Rattle.maths.specs.Tests.{pick, both}
-use Rattle.codes.specs.Answers.{test, first_of}
-use Rattle.sheet_values.specs.declared.Op.{Op}
-use Rattle.sheet_values.specs.declared.Number.{Number}
-use Rattle.sheet_values.specs.declared.Number.TheVariants.{Is, NoNumber}
-use Rattle.sheet_values.specs.declared.Named.{Named}
-use Rattle.sheet_values.specs.declared.Named.TheVariants.{Names, NoName}
-use Rattle.sheet_values.specs.Values.{begins, hex_text, unhex}
-use Rattle.sheet_values.proofs.Words.{begins_low}
-use Rattle.sheet_values.proofs.Hex.{hex_even, unhex_length}
-use Rattle.sheet_text.specs.declared.read.Line.{Line}
-use Rattle.sheet_text.specs.declared.read.Line.TheVariants.{Missing, Between}
-use Rattle.sheet_text.specs.declared.read.Reading.{Reading}
-use Rattle.sheet_text.specs.declared.read.Reading.TheVariants.{Malformed, Asks}
-use Rattle.sheet_text.specs.Text.{newline, longest}
-use Rattle.sheet_text.specs.Reading.{line_end, Sheet, malformed, sheet, field, with_number, with_op, from_code, parse, line_at, placed, read_of, text_number, unread, read_answer}
+-- A line: what is read was spelled, and what is spelled is read. Assumes nothing.
+use Rattle.std.proofs.Common.{◌≡◌, ℕ, suc, ◌+◌, ◌<◌, Bool, true, false, cond, List, [], ◌∷◌, ◌++◌, Option, Some, None, nat_lt, lt-ltb, length, take, drop, take-append-drop, add-one, refl, sym, ap, ◌∙◌, append_assoc, length-append, arith}
+use Rattle.std.specs.List.{list_all, position_or_len}
+use Rattle.std.specs.Option.{option_map, option_and_then}
+use Rattle.std.proofs.lemmas.Bool.Decides.{nat_tests}
+use Rattle.std.proofs.lemmas.Slice.Eq.{bytes_eq-Decides}
+use lib.Seq.{drop-append_seam, take-append_seam}
+use Rattle.sheet_text.specs.Text.{newline, is_newline, line}
+use Rattle.sheet_text.specs.Reading.{begins, cut}
+use Rattle.sheet_text.proofs.Plain.{plain}
 
-line_end_low : (s : List ℕ) → line_end s ≤ length s
-unfolding line_end
-line_end_low [] = omega arith
-line_end_low (b ∷ s) = go (eqb b newline) (line_end_low s)
+-- ---- a step whose value is there
+pub step : {A B : Type 0} {o : Option A} (x : A) (f : A → Option B) {r : Option B} → o ≡ Some x → f x ≡ r → option_and_then f o ≡ r
+step x f e h = rw e h
+
+-- a step that was taken, and what it found
+pub taken : {A B : Type 0} (f : A → Option B) (o : Option A) {y : B} → option_and_then f o ≡ Some y → (x : A) × ((o ≡ Some x) × (f x ≡ Some y))
+taken f (Some x) e = (x, (refl, e))
+taken f None e = absurd (let z : ◌≡◌ {A = ℕ} 0 1 = cc in omega arith)
+
+-- a test that was passed, and what it let through
+pub passed : {A : Type 0} (b : Bool) (o : Option A) {y : A} → cond b o None ≡ Some y → (b ≡ true) × (o ≡ Some y)
+passed true o e = (refl, e)
+passed false o e = absurd (let z : ◌≡◌ {A = ℕ} 0 1 = cc in omega arith)
+
+-- the bytes before a newline at n, and the bytes after it
+abbrev Cut : List ℕ → ℕ → Type 0
+Cut s n = s ≡ take n s ++ newline ∷ drop (n + 1) s
+
+cut_more : (b : ℕ) (s : List ℕ) (n : ℕ) → Cut s n → Cut (b ∷ s) (1 + n)
+cut_more b s n h =
+    let p : 1 + n ≡ suc n = omega arith in
+    let q : suc n + 1 ≡ suc (n + 1) = omega arith in
+    rw (p, q) (ap (λ (t : List ℕ). b ∷ t) h)
+
+newline_at : (s : List ℕ) → position_or_len is_newline s < length s → Cut s (position_or_len is_newline s)
+newline_at [] h = absurd (omega arith)
+newline_at (b ∷ s) h = go (is_newline b) refl h (newline_at s)
   where
-    go : (x : Bool) → line_end s ≤ length s → pick x 0 (suc (line_end s)) ≤ suc (length s)
-    go true h = omega arith
-    go false h = omega arith
+    go : (x : Bool) → is_newline b ≡ x → position_or_len is_newline (b ∷ s) < length (b ∷ s)
+        → (position_or_len is_newline s < length s → Cut s (position_or_len is_newline s)) → Cut (b ∷ s) (position_or_len is_newline (b ∷ s))
+    go true e h ih = rw e (let n : b ≡ newline = grind (arith, nat_tests) in ap (λ (c : ℕ). c ∷ s) n)
+    go false e h ih =
+        let l : 1 + position_or_len is_newline s < suc (length s) = rw e at h in
+        rw e (cut_more b s (position_or_len is_newline s) (ih (omega arith)))
 
--- what is lent from a place on is what is left there
-rest_whole : (s : List ℕ) (at : ℕ) → take (length s - at) (drop at s) ≡ drop at s
-rest_whole s at = take_all (length s - at) (drop at s) (omega (arith, length-drop at s))
+-- a value holds no newline
+line_end : (v rest : List ℕ) → list_all plain v ≡ true → position_or_len is_newline (v ++ newline ∷ rest) ≡ length v
+line_end [] rest e = refl
+line_end (b ∷ v) rest e =
+    let p : plain b ≡ true = grind (arith, nat_tests) in
+    let q : list_all plain v ≡ true = grind (arith, nat_tests) in
+    rw p (omega (arith, line_end v rest q))
 
--- finding a line: whether the key stands there, and where the value ends
-module _ (s : List ℕ) (at : ℕ) (key : List ℕ) {r : Bool} (e : r ≡ begins key (take (length s - at) (drop at s))) where
-  key_there : begins key (drop at s) ≡ r
-  key_there = sym (rw (rest_whole s at) at e)
+regroup : (key v rest : List ℕ) → line key v ++ rest ≡ key ++ (v ++ newline ∷ rest)
+regroup key v rest = simp append_assoc
 
-  pub key_missing : r ≡ false → Missing ≡ line_at s at key
-  key_missing f = rw (key_there ∙ f)
+-- a line that was cut off
+pub cut_spelled : (key s v rest : List ℕ) → cut key s ≡ Some (v, rest) → s ≡ line key v ++ rest
+unfolding cut
+cut_spelled key s v rest e = go (begins key s) refl (nat_lt n (length t)) refl e
+  where
+    t : List ℕ
+    t = drop (length key) s
 
-  module _ (h : at ≤ length s) (t : r ≡ true) where
-    pub key_fits : at + length key ≤ length s
-    key_fits = omega (arith, begins_low key (drop at s) (key_there ∙ t), length-drop at s)
+    n : ℕ
+    n = position_or_len is_newline t
 
-    module _ {n : ℕ} (g : n ≡ line_end (take (length s - (at + length key)) (drop (at + length key) s))) where
-      value_ends : line_end (drop (at + length key) s) ≡ n
-      value_ends = sym (rw (rest_whole s (at + length key)) at g)
+    go : (x : Bool) → begins key s ≡ x → (y : Bool) → nat_lt n (length t) ≡ y
+        → cond x (option_map {U = List ℕ × List ℕ} (λ n. (take n t, drop (n + 1) t)) (cond y (Some n) None)) None ≡ Some (v, rest) → s ≡ line key v ++ rest
+    go true p true q e =
+        let k : take (length key) s ≡ key = (bytes_eq-Decides (take (length key) s) key).0 p in
+        let m : t ≡ take n t ++ newline ∷ drop (n + 1) t = newline_at t (grind (arith, nat_tests)) in
+        let c : ◌≡◌ {A = List ℕ × List ℕ} (take n t, drop (n + 1) t) (v, rest) = cc in
+        let a = ap (λ (c : List ℕ × List ℕ). c.0) c in
+        let b = ap (λ (c : List ℕ × List ℕ). c.1) c in
+        sym (take-append-drop (length key) s) ∙ rw (k, m, a, b) (sym (regroup key v rest))
+    go true p false q e = absurd (let z : ◌≡◌ {A = ℕ} 0 1 = cc in omega arith)
+    go false p y q e = absurd (let z : ◌≡◌ {A = ℕ} 0 1 = cc in omega arith)
 
-      pub value_fits : length s < 2 ^ 64 → Fits w64 (at + length key + n)
-      value_fits l = record { fits = omega (arith, key_fits, value_ends, line_end_low (drop (at + length key) s), length-drop (at + length key) s) }
-
-      pub line_found : at + length key + n < length s → Between (at + length key) (at + length key + n) ≡ line_at s at key
-      line_found l = rw (key_there ∙ t, value_ends, lt-ltb (at + length key + n) (length s) l)
-
-      pub line_open : length s ≤ at + length key + n → Missing ≡ line_at s at key
-      line_open l = rw (key_there ∙ t, value_ends, le-ltb (at + length key + n) (length s) l)
-
-pub ruleset finds = (key_missing, key_fits, value_fits, line_found, line_open, not-true, not-false, rules)
-
-module _ (s : List ℕ) (at : ℕ) (key : List ℕ) (more : List ℕ → List ℕ → Sheet) where
-  -- what a found line says of the text from there on
-  abbrev Told : Line → Type 0
-  Told Missing = field key (drop at s) more ≡ malformed
-  Told (Between from to) = (from ≤ to) × ((to < length s) × (field key (drop at s) more ≡ more (take (to - from) (drop from s)) (drop (to + 1) s)))
-
-  abbrev start : ℕ
-  start = at + length key
-
-  abbrev stop : ℕ
-  stop = start + line_end (drop start s)
-
-  by_start : (x : Bool) → begins key (drop at s) ≡ x
-      → field key (drop at s) more
-      ≡ pick (both x (ltb (line_end (drop start s)) (length (drop start s)))) (more (take (line_end (drop start s)) (drop start s)) (drop (suc (line_end (drop start s))) (drop start s))) malformed
-  unfolding field
-  by_start x e = rw (drop-drop (length key) at s, e)
-
-  told_go : at ≤ length s → (x : Bool) → begins key (drop at s) ≡ x → (y : Bool) → ltb stop (length s) ≡ y
-      → Told (pick x (pick y (Between start stop) Missing) Missing)
-  told_go h false e y f = by_start false e
-  told_go h true e false f =
-      let l = ltb-false stop (length s) f in
-      let k = begins_low key (drop at s) e in
-      by_start true e ∙ rw (le-ltb (line_end (drop start s)) (length (drop start s)) (omega (arith, length-drop start s, length-drop at s)))
-  told_go h true e true f =
-      let l = ltb-true stop (length s) f in
-      let k = begins_low key (drop at s) e in
-      let g : start + suc (line_end (drop start s)) ≡ stop + 1 = omega arith in (
-        omega arith,
-        (
-          l,
-          by_start true e
-              ∙ rw (lt-ltb (line_end (drop start s)) (length (drop start s)) (omega (arith, length-drop start s, length-drop at s)))
-              (rw (drop-drop (suc (line_end (drop start s))) start s, g, add-sub_cancel_left start (line_end (drop start s)))),
-        ),
-      )
-
-  told : (r : Line) → at ≤ length s → r ≡ line_at s at key → Told r
-  told r h e = subst Told (sym e) (told_go h (begins key (drop at s)) refl (ltb stop (length s)) refl)
-
--- ---- a reader of a line, by the line r that was found: its value stands inside the text
-module _ (s : List ℕ) (at : ℕ) (key : List ℕ) (r : Line) (from to : ℕ) (e : r ≡ Between from to) (f : r ≡ line_at s at key) (h : at ≤ length s) where
-  lies : (more : List ℕ → List ℕ → Sheet) → Told s at key more (Between from to)
-  lies more = told s at key more (Between from to) h (sym e ∙ f)
-
-  pub line_ordered : from ≤ to
-  line_ordered = (lies (λ _ _. malformed)).0
-
-  pub line_inside : to ≤ length s
-  line_inside = omega (arith, (lies (λ _ _. malformed)).1.0)
-
-  pub line_after : to + 1 ≤ length s
-  line_after = omega (arith, (lies (λ _ _. malformed)).1.0)
-
-  pub line_fits : length s < 2 ^ 64 → Fits w64 (to + 1)
-  line_fits l = record { fits = omega (arith, (lies (λ _ _. malformed)).1.0) }
-
-  -- the reader answers what its value and the text after it say
-  pub line_read : (n : ℕ) (more : List ℕ → List ℕ → Sheet) (x : Reading) → x ≡ placed n (more (take (to - from) (drop from s)) (drop (to + 1) s))
-      → x ≡ placed n (field key (drop at s) more)
-  line_read n more x g = rw (lies more).1.1 g
-
-pub line_missing : (s : List ℕ) (at : ℕ) (key : List ℕ) (r : Line) (n : ℕ) (more : List ℕ → List ℕ → Sheet) → r ≡ Missing → r ≡ line_at s at key → at ≤ length s
-    → Malformed ≡ placed n (field key (drop at s) more)
-line_missing s at key r n more e f h = rw (told s at key more Missing h (sym e ∙ f))
-
--- what a value says, by the answer y of the function that read it
-pub number_none : (n : ℕ) (x y : Number) (more : ℕ → Sheet) → y ≡ NoNumber → y ≡ x → Malformed ≡ placed n (with_number x more)
-number_none n x y more e f = rw (sym f ∙ e)
-
-pub number_read : (n k : ℕ) (x y : Number) (more : ℕ → Sheet) (z : Reading) → y ≡ Is k → y ≡ x → z ≡ placed n (more k) → z ≡ placed n (with_number x more)
-number_read n k x y more z e f g = rw (sym f ∙ e) g
-
-pub op_none : (n : ℕ) (x y : Named) (more : Op → Sheet) → y ≡ NoName → y ≡ x → Malformed ≡ placed n (with_op x more)
-op_none n x y more e f = rw (sym f ∙ e)
-
-pub op_read : (n : ℕ) (k : Op) (x y : Named) (more : Op → Sheet) (z : Reading) → y ≡ Names k → y ≡ x → z ≡ placed n (more k) → z ≡ placed n (with_op x more)
-op_read n k x y more z e f g = rw (sym f ∙ e) g
-
--- the digits that stand between two places
-digits_length : (s : List ℕ) (from to : ℕ) → from ≤ to → to < length s → hex_text (take (to - from) (drop from s)) ≡ true
-    → 2 * length (unhex (take (to - from) (drop from s))) ≡ to - from
-digits_length s from to g h e =
-    let v = take (to - from) (drop from s) in
-    let n : length v ≡ to - from = length-take-le (to - from) (drop from s) (omega (arith, length-drop from s)) in
-    omega (arith, unhex_length v (hex_even v e))
-
--- the frame's digits are none, are not the text's last, or are read
-module _ (v : List ℕ) (b : Bool) (e : b ≡ hex_text v) where
-  pub frame_none : (n : ℕ) (last : Bool) (x : Sheet) → b ≡ false → Malformed ≡ placed n (pick (both (hex_text v) last) x malformed)
-  frame_none n last x f = rw (sym e ∙ f)
-
-  pub frame_not_last : (s : List ℕ) (to n : ℕ) (x : Sheet) → b ≡ true → (to + 1 ≡ length s → ⊥) → to + 1 ≤ length s
-      → Malformed ≡ placed n (pick (both (hex_text v) (eqb (length (drop (to + 1) s)) 0)) x malformed)
-  frame_not_last s to n x t g h =
-      rw (sym e ∙ t, ne_eqb (length (drop (to + 1) s)) 0 (λ z. g (omega (arith, length-drop (to + 1) s))))
-
-pub frame_read : (s : List ℕ) (from to code : ℕ) (op : Op) (limit : ℕ) (b : Bool) → b ≡ hex_text (take (to - from) (drop from s)) → b ≡ true → to + 1 ≡ length s → from ≤ to
-    → Asks (record { code = code; op = op; limit = limit; start = from; digits = to - from })
-    ≡ placed (length s)
-    (pick (both (hex_text (take (to - from) (drop from s))) (eqb (length (drop (to + 1) s)) 0)) (sheet code op limit (unhex (take (to - from) (drop from s)))) malformed)
-frame_read s from to code op limit b e t l h =
-    let n = digits_length s from to h (omega arith) (sym e ∙ t) in
-    let f : length s - 1 - (to - from) ≡ from = omega arith in
-    rw (sym e ∙ t, eq-eqb (length (drop (to + 1) s)) 0 (omega (arith, length-drop (to + 1) s)), n, f)
-
-pub ruleset lines = (line_ordered, line_inside, line_after, line_fits, line_read, line_missing, number_none, number_read, op_none, op_read, frame_none, frame_not_last, frame_read, not-true, not-false, rules)
-
--- ---- the promise of `read`, by what it read
-number_of : (n : ℕ) (x : Sheet) → text_number (placed n x) ≡ first_of (test (unread x) 9 ∷ [])
-number_of n malformed = refl
-number_of n (sheet code op limit frame) = refl
-
-module _ (s : List ℕ) where
-  read_so : {r : Reading} → r ≡ read_of s → (r ≡ read_of s) × (text_number r ≡ read_answer s)
-  read_so e = (e, ap text_number e ∙ number_of (length s) (parse s))
-
-  pub read_long : longest < length s → (Malformed ≡ read_of s) × (text_number Malformed ≡ read_answer s)
-  unfolding parse
-  read_long h = read_so (rw (lt-leb (length s) longest h))
-
-  pub read_short : (r : Reading) → length s ≤ longest → r ≡ placed (length s) (from_code s) → (r ≡ read_of s) × (text_number r ≡ read_answer s)
-  unfolding parse
-  read_short r h e = read_so (rw (le-leb (length s) longest h) e)
+pub cut_read : (key v rest : List ℕ) → list_all plain v ≡ true → cut key (line key v ++ rest) ≡ Some (v, rest)
+unfolding cut
+cut_read key v rest h =
+    let n = length-append v (newline ∷ rest) in
+    let e = line_end v rest h in
+    let l : nat_lt (length v) (length (v ++ newline ∷ rest)) ≡ true = lt-ltb _ _ (omega arith) in
+    rw (
+      regroup key v rest,
+      take-append_seam key (v ++ newline ∷ rest),
+      (bytes_eq-Decides key key).1 refl,
+      drop-append_seam key (v ++ newline ∷ rest),
+      e,
+      l,
+      take-append_seam v (newline ∷ rest),
+      add-one (length v),
+      past v newline rest,
+    )
+  where
+    past : (v : List ℕ) (b : ℕ) (rest : List ℕ) → drop (suc (length v)) (v ++ b ∷ rest) ≡ rest
+    past [] b rest = refl
+    past (x ∷ v) b rest = past v b rest

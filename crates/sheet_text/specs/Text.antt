@@ -1,11 +1,14 @@
 -- What a well-formed bench sheet is, as a text that is spelled out. Assumes nothing.
-use Rattle.std.specs.Prelude.{List, [], ◌∷◌, ◌++◌, ◌≡◌, ℕ, ◌≤◌, ◌<◌, length}
+use Rattle.std.specs.Prelude.{Bool, ◌==◌, List, [], ◌∷◌, ◌++◌, ◌≡◌, ℕ, ◌≤◌, ◌<◌, length}
 use Rattle.maths.specs.Bytes.{Bytes}
 use Rattle.sheet_values.specs.declared.Op.{Op}
 use Rattle.sheet_values.specs.Spelling.{ascii, glyph, decimal, hex, name_of, largest}
 
 abbrev pub newline : ℕ
 newline = 10
+
+abbrev pub is_newline : ℕ → Bool
+is_newline b = b == newline
 
 -- "`key=value` lines .. each ended by one newline"
 abbrev pub line : List ℕ → List ℕ → List ℕ

@@ -1,132 +1,59 @@
 // Reading a bench sheet: four lines, each a key, a value and a newline.
-ghost use Rattle.std.specs.Prelude.{◌≡◌, ◌≤◌, length, drop};
-ghost use Rattle.sheet_text.specs.Reading.{line_end, line_at, placed, from_code, from_op, from_limit, from_frame, read_of, text_number, read_answer};
+ghost use Rattle.std.specs.Prelude.{◌≡◌, MatchOption, Some, None};
+ghost use Rattle.std.specs.List.{position};
+ghost use Rattle.sheet_text.specs.Text.{is_newline};
+ghost use Rattle.sheet_text.specs.Reading.{cut, asked, read_of, text_number, read_answer};
 
-use sheet_values::{Named, Number, Op, digit_of, is_hex, number_of, op_of, starts_with};
+use sheet_values::{Op, digit_of, is_hex, number_of, op_of};
 
 // A sheet has at most so many bytes, and in a buffer of one more a longer text shows.
 const LONGEST: usize = 8192;
 
 pub const TEXT_ROOM: usize = LONGEST + 1;
 
-// A line's value stands between two places, and the newline at the second.
-#[derive(Clone, Copy)]
-pub(crate) enum Line {
-    Missing,
-    Between(usize, usize),
-}
-
-// The parts of a well-formed sheet; the frame's hex digits stand in the text from start on.
-#[derive(Clone, Copy)]
-pub struct Request {
+// The parts of a well-formed sheet; the frame is in hex.
+#[derive(Clone, Copy, Debug)]
+pub struct Request<'a> {
     pub code: usize,
     pub op: Op,
     pub limit: usize,
-    pub start: usize,
-    pub digits: usize,
+    pub frame: &'a [u8],
 }
 
-#[derive(Clone, Copy)]
-pub enum Reading {
-    Malformed,
-    Asks(Request),
-}
-
-// How many bytes stand before the first newline.
-fn line_end(s: &[u8]) -> usize
-    ensures { result ≡ line_end s.now }
+fn line_end(s: &[u8]) -> Option<usize>
+    ensures { result ≡ position is_newline s.now }
 {
-    for i in 0..s.len() {
-        if s[i] == b'\n' {
-            return i;
-        }
-    }
-    s.len()
+    s.iter().position(|&b| b == b'\n')
 }
 
-fn find_line(text: &[u8], at: usize, key: &[u8]) -> Line
-    requires { at ≤ length text.now }
-    ensures { result ≡ line_at text.now at key.now }
+// The value of the line at the front, which has the key, and the text after the line.
+#[tactic(auto, unfolding(crate::specs::Reading::cut))]
+fn cut<'a>(text: &'a [u8], key: &[u8]) -> Option<(&'a [u8], &'a [u8])>
+    ensures { MatchOption result (cut key.now text.now ≡ None) (λ p. cut key.now text.now ≡ Some (p.0.now, p.1.now)) }
 {
-    if !starts_with(&text[at..], key) {
-        return Line::Missing;
-    }
-    let from = at + key.len();
-    let to = from + line_end(&text[from..]);
-    if to < text.len() {
-        Line::Between(from, to)
-    } else {
-        Line::Missing
-    }
-}
-
-fn frame_line(text: &[u8], at: usize, code: usize, op: Op, limit: usize) -> Reading
-    requires { at ≤ length text.now }
-    ensures { result ≡ placed (length text.now) (from_frame code op limit (drop at text.now)) }
-{
-    let Line::Between(from, to) = find_line(text, at, b"frame=") else {
-        return Reading::Malformed;
-    };
-    if !is_hex(&text[from..to]) {
-        return Reading::Malformed;
-    }
-    if to + 1 != text.len() {
-        return Reading::Malformed;
-    }
-    Reading::Asks(Request {
-        code,
-        op,
-        limit,
-        start: from,
-        digits: to - from,
-    })
-}
-
-fn limit_line(text: &[u8], at: usize, code: usize, op: Op) -> Reading
-    requires { at ≤ length text.now }
-    ensures { result ≡ placed (length text.now) (from_limit code op (drop at text.now)) }
-{
-    let Line::Between(from, to) = find_line(text, at, b"maxiters=") else {
-        return Reading::Malformed;
-    };
-    let Number::Is(limit) = number_of(&text[from..to]) else {
-        return Reading::Malformed;
-    };
-    frame_line(text, to + 1, code, op, limit)
-}
-
-fn op_line(text: &[u8], at: usize, code: usize) -> Reading
-    requires { at ≤ length text.now }
-    ensures { result ≡ placed (length text.now) (from_op code (drop at text.now)) }
-{
-    let Line::Between(from, to) = find_line(text, at, b"op=") else {
-        return Reading::Malformed;
-    };
-    let Named::Names(op) = op_of(&text[from..to]) else {
-        return Reading::Malformed;
-    };
-    limit_line(text, to + 1, code, op)
-}
-
-fn code_line(text: &[u8], at: usize) -> Reading
-    requires { at ≤ length text.now }
-    ensures { result ≡ placed (length text.now) (from_code (drop at text.now)) }
-{
-    let Line::Between(from, to) = find_line(text, at, b"code=") else {
-        return Reading::Malformed;
-    };
-    let Number::Is(code) = digit_of(&text[from..to]) else {
-        return Reading::Malformed;
-    };
-    op_line(text, to + 1, code)
+    let line = text.strip_prefix(key)?;
+    let end = line_end(line)?;
+    Some((&line[..end], &line[end + 1..]))
 }
 
 // Reads a sheet: its parts, or that it is malformed.
-pub fn read(text: &[u8]) -> Reading
-    ensures { (result ≡ read_of text.now) × (text_number result ≡ read_answer text.now) }
+#[tactic(auto, unfolding(crate::specs::Reading::parse))]
+pub fn read(text: &[u8]) -> Option<Request<'_>>
+    ensures parts { asked result ≡ read_of text.now }
+    ensures number { text_number (asked result) ≡ read_answer text.now }
 {
     if text.len() > LONGEST {
-        return Reading::Malformed;
+        return None;
     }
-    code_line(text, 0)
+    let (code, rest) = cut(text, b"code=")?;
+    let (op, rest) = cut(rest, b"op=")?;
+    let (limit, rest) = cut(rest, b"maxiters=")?;
+    let (frame, rest) = cut(rest, b"frame=")?;
+    let request = Request {
+        code: digit_of(code)?,
+        op: op_of(op)?,
+        limit: number_of(limit)? as usize, // From does not make a usize of a u32
+        frame,
+    };
+    (is_hex(frame) && rest.is_empty()).then_some(request)
 }

@@ -1,21 +1,14 @@
 -- Numbers in decimal: what is read is what is spelled. Assumes nothing.
-use mathlib.Core.Bool.{Bool, true, false}
-use mathlib.Core.List.{List, [], ◌∷◌, ◌++◌, append-nil}
-use mathlib.Core.Path.{◌≡◌, refl, sym, ap, ◌∙◌}
-use Prim.Native.Nat.{ℕ, zero, suc, ◌+◌, ◌*◌, ◌/◌, ◌%◌, ◌^◌, ◌≤◌, ◌<◌}
-use native.Mathlib.Nat.{zero-add, div-lt_iff_lt-mul, pow-suc}
+use Rattle.std.proofs.Common.{◌≡◌, ℕ, zero, suc, ◌+◌, ◌*◌, ◌/◌, ◌%◌, ◌^◌, ◌≤◌, ◌<◌, List, [], ◌∷◌, ◌++◌, Option, Some, None, cond, nat_le, length, get_or, refl, sym, ap, ◌∙◌, append-nil, length-append, lt-ltb, le-ltb, zero-add, div-lt_iff_lt-mul, pow-suc, arith}
+use Rattle.std.specs.Option.{option_and_then}
+use Rattle.std.proofs.lemmas.Bool.Decides.{nat_tests}
 use native.Mathlib.Decide.{dec_lt}
-use native.Mathlib.Omega.{arith}
-use borrow.Author.Tests.{lt-ltb, le-ltb, le-leb, ltb-true, ltb-false, leb-true}
-use lib.Dec.{ltb, leb, eqb}
-use lib.ListN.{length, get_or, length-append, get_or-append}
+use lib.ListN.{get_or-append}
 use lib.Seq.{append_snoc}
-use Rattle.maths.specs.Tests.{pick, both}
-use Rattle.sheet_values.specs.declared.Number.TheVariants.{Is, NoNumber}
 use Rattle.sheet_values.specs.Spelling.{glyph, decimal_in, decimal, largest}
-use Rattle.sheet_values.specs.Values.{value_of, number_from, number_of}
-use Rattle.sheet_values.proofs.Glyphs.{value_glyph, glyph_value}
-use Rattle.sheet_values.proofs.Turns.{number_plain}
+use Rattle.sheet_values.specs.Values.{decimal_value, number_from, number_of}
+use Rattle.sheet_values.proofs.Glyphs.{decimal_glyph, glyph_decimal}
+use Rattle.sheet_values.proofs.Turns.{number_more}
 
 -- ---- the digits of a number do not depend on how many may be split off, where that is enough
 enough : (k m n : ℕ) → n ≤ k → n ≤ m → decimal_in k n ≡ decimal_in m n
@@ -52,87 +45,71 @@ by_tenths P few more n = go n n (omega arith)
         split (no l) ih = more n (omega arith) (ih (omega arith))
 
 -- ---- what is read was spelled
-next_digit : (n b : ℕ) → 1 ≤ n → value_of b < 10 → decimal (10 * n + value_of b) ≡ decimal n ++ b ∷ []
-next_digit n b h l =
-    let q : (10 * n + value_of b) / 10 ≡ n = omega arith in
-    let r : (10 * n + value_of b) % 10 ≡ value_of b = omega arith in
-    decimal_more (10 * n + value_of b) (omega arith) ∙ rw (q, r, glyph_value b (omega arith))
+next_digit : (n b d : ℕ) → 1 ≤ n → decimal_value b ≡ Some d → decimal (10 * n + d) ≡ decimal n ++ b ∷ []
+next_digit n b d h e =
+    let g = glyph_decimal b d e in
+    let q : (10 * n + d) / 10 ≡ n = omega (arith, g.1) in
+    let r : (10 * n + d) % 10 ≡ d = omega (arith, g.1) in
+    decimal_more (10 * n + d) (omega arith) ∙ rw (q, r, g.0)
 
 pub record Spelled (digits : List ℕ) (m : ℕ) : Type 0 where
   pub is : digits ≡ decimal m
   pub low : m ≤ largest
 
-from_spelled : (v : List ℕ) (n m : ℕ) → 1 ≤ n → n ≤ largest → number_from n v ≡ Is m → Spelled (decimal n ++ v) m
+-- a number's first digit is read, and its value and the rest are at most the largest
+record First (n b : ℕ) (s : List ℕ) (m : ℕ) : Type 0 where
+  digit : ℕ
+  value : decimal_value b ≡ Some digit
+  low : 10 * n + digit ≤ largest
+  rest : number_from (10 * n + digit) s ≡ Some m
+
+first : (n b : ℕ) (s : List ℕ) (m : ℕ) → number_from n (b ∷ s) ≡ Some m → First n b s m
 unfolding number_from
-from_spelled [] n m h l e =
+first n b s m e = go (decimal_value b) refl e
+  where
+    go : (o : Option ℕ) → decimal_value b ≡ o → option_and_then (λ d. cond (nat_le (10 * n + d) largest) (number_from (10 * n + d) s) None) o ≡ Some m → First n b s m
+    go None q e = absurd (let z : ◌≡◌ {A = ℕ} 0 1 = cc in omega arith)
+    go (Some d) q e = record { digit = d; value = q; low = grind (arith, nat_tests); rest = grind (arith, nat_tests) }
+
+from_spelled : (v : List ℕ) (n m : ℕ) → 1 ≤ n → n ≤ largest → number_from n v ≡ Some m → Spelled (decimal n ++ v) m
+from_spelled [] n m h l e = unfold number_from in (
     let q : n ≡ m = cc in
-    record { is = append-nil (decimal n) ∙ ap decimal q; low = omega arith }
-from_spelled (b ∷ s) n m h l e = go (ltb (value_of b) 10) refl (leb (10 * n + value_of b) largest) refl e (from_spelled s (10 * n + value_of b) m)
-  where
-    go : (x : Bool) → ltb (value_of b) 10 ≡ x → (y : Bool) → leb (10 * n + value_of b) largest ≡ y
-        → pick x (pick y (number_from (10 * n + value_of b) s) NoNumber) NoNumber ≡ Is m
-        → (1 ≤ 10 * n + value_of b → 10 * n + value_of b ≤ largest → number_from (10 * n + value_of b) s ≡ Is m → Spelled (decimal (10 * n + value_of b) ++ s) m)
-        → Spelled (decimal n ++ b ∷ s) m
-    go true p true q e ih =
-        let d = next_digit n b h (ltb-true (value_of b) 10 p) in
-        let i = ih (omega arith) (leb-true (10 * n + value_of b) largest q) e in
-        record { is = sym (append_snoc (decimal n) b s) ∙ rw d at i.is; low = i.low }
-    go true p false q e ih = absurd (let z : ◌≡◌ {A = ℕ} 0 1 = cc in omega arith)
-    go false p y q e ih = absurd (let z : ◌≡◌ {A = ℕ} 0 1 = cc in omega arith)
+    record { is = append-nil (decimal n) ∙ ap decimal q; low = omega arith })
+from_spelled (b ∷ s) n m h l e =
+    let f = first n b s m e in
+    let i = from_spelled s (10 * n + f.digit) m (omega arith) f.low f.rest in
+    record { is = sym (append_snoc (decimal n) b s) ∙ rw (next_digit n b f.digit h f.value) at i.is; low = i.low }
 
-pub number_spelled : (v : List ℕ) (m : ℕ) → number_of v ≡ Is m → Spelled v m
-unfolding number_of number_from
+pub number_spelled : (v : List ℕ) (m : ℕ) → number_of v ≡ Some m → Spelled v m
 number_spelled [] m e = absurd (let z : ◌≡◌ {A = ℕ} 0 1 = cc in omega arith)
-number_spelled (b ∷ s) m e = go (both (eqb b 48) (ltb 0 (length s))) refl e
+number_spelled (b ∷ s) m e = go (first 0 b s m (grind (arith, nat_tests)))
   where
-    -- a first digit that is not 0, and one that is
-    first : (n : ℕ) → value_of b ≡ n → n < 10 → both (eqb b 48) (ltb 0 (length s)) ≡ false → number_from n s ≡ Is m → Spelled (b ∷ s) m
-    first (suc n) q l p e =
-        let i = from_spelled s (suc n) m (omega arith) (omega arith) e in
-        record { is = rw (decimal_digit (suc n) l, ← q, glyph_value b (omega arith)) at i.is; low = i.low }
-    first zero q l p e =
-        let c : 48 ≡ b = rw q at (glyph_value b (omega arith)) in
-        alone s (rw (← c) at p) e c
+    -- a first digit that is 0 stands alone
+    go : First 0 b s m → Spelled (b ∷ s) m
+    go f = by f.digit s (glyph_decimal b f.digit f.value) (rw (zero-add f.digit) at f.rest) e
       where
-        alone : (t : List ℕ) → ltb 0 (length t) ≡ false → number_from 0 t ≡ Is m → 48 ≡ b → Spelled (b ∷ t) m
-        alone [] p e c =
+        by : (d : ℕ) (t : List ℕ) → (glyph d ≡ b) × (d < 10) → number_from d t ≡ Some m → number_of (b ∷ t) ≡ Some m → Spelled (b ∷ t) m
+        by (suc d) t g r e =
+            let i = from_spelled t (suc d) m (omega arith) (omega (arith, g.1)) r in
+            record { is = rw (decimal_digit (suc d) g.1, g.0) at i.is; low = i.low }
+        by zero [] g r e = unfold number_from in (
             let q : 0 ≡ m = cc in
-            record { is = rw (← c, ← q, decimal_digit 0 (omega arith)); low = omega arith }
-        alone (x ∷ t) p e c = absurd (omega (arith, ltb-false 0 (suc (length t)) p))
-
-    go : (x : Bool) → both (eqb b 48) (ltb 0 (length s)) ≡ x → pick x NoNumber (number_from 0 (b ∷ s)) ≡ Is m → Spelled (b ∷ s) m
-    go true p e = absurd (let z : ◌≡◌ {A = ℕ} 0 1 = cc in omega arith)
-    go false p e = digit (ltb (value_of b) 10) refl (leb (10 * 0 + value_of b) largest) refl e
-      where
-        digit : (x : Bool) → ltb (value_of b) 10 ≡ x → (y : Bool) → leb (10 * 0 + value_of b) largest ≡ y
-            → pick x (pick y (number_from (10 * 0 + value_of b) s) NoNumber) NoNumber ≡ Is m → Spelled (b ∷ s) m
-        digit true q true r e = first (value_of b) refl (ltb-true (value_of b) 10 q) p (rw (zero-add (value_of b)) at e)
-        digit true q false r e = absurd (let z : ◌≡◌ {A = ℕ} 0 1 = cc in omega arith)
-        digit false q y r e = absurd (let z : ◌≡◌ {A = ℕ} 0 1 = cc in omega arith)
+            record { is = rw (← q, decimal_digit 0 (omega arith), g.0); low = omega arith })
+        by zero (x ∷ t) g r e = absurd (let z : b ≡ 48 = sym g.0 in grind (arith, nat_tests))
 
 -- ---- what is spelled is read
-from_append : (v w : List ℕ) (n k : ℕ) → number_from n v ≡ Is k → number_from n (v ++ w) ≡ number_from k w
-unfolding number_from
-from_append [] w n k e =
-    let q : n ≡ k = cc in
-    rw q
-from_append (b ∷ v) w n k e = go (ltb (value_of b) 10) (leb (10 * n + value_of b) largest) e (from_append v w (10 * n + value_of b) k)
-  where
-    go : (x y : Bool) → pick x (pick y (number_from (10 * n + value_of b) v) NoNumber) NoNumber ≡ Is k
-        → (number_from (10 * n + value_of b) v ≡ Is k → number_from (10 * n + value_of b) (v ++ w) ≡ number_from k w)
-        → pick x (pick y (number_from (10 * n + value_of b) (v ++ w)) NoNumber) NoNumber ≡ number_from k w
-    go true true e ih = ih e
-    go true false e ih = absurd (let z : ◌≡◌ {A = ℕ} 0 1 = cc in omega arith)
-    go false y e ih = absurd (let z : ◌≡◌ {A = ℕ} 0 1 = cc in omega arith)
+from_append : (v w : List ℕ) (n k : ℕ) → number_from n v ≡ Some k → number_from n (v ++ w) ≡ number_from k w
+from_append [] w n k e = unfold number_from in (let q : n ≡ k = cc in rw q)
+from_append (b ∷ v) w n k e =
+    let f = first n b v k e in
+    number_more n b (v ++ w) f.digit f.value f.low ∙ from_append v w (10 * n + f.digit) k f.rest
 
-one_digit : (n d m : ℕ) → d < 10 → 10 * n + d ≡ m → m ≤ largest → number_from n (glyph d ∷ []) ≡ Is m
-unfolding number_from
-one_digit n d m h e l =
-    rw (value_glyph d (omega arith), lt-ltb d 10 h, e, le-leb m largest l)
+one_digit : (n d m : ℕ) → d < 10 → 10 * n + d ≡ m → m ≤ largest → number_from n (glyph d ∷ []) ≡ Some m
+one_digit n d m h e l = number_more n (glyph d) [] d (decimal_glyph d h) (omega arith) ∙ unfold number_from in (ap Some e)
 
-from_decimal : (m : ℕ) → m ≤ largest → number_from 0 (decimal m) ≡ Is m
+from_decimal : (m : ℕ) → m ≤ largest → number_from 0 (decimal m) ≡ Some m
 from_decimal =
-    by_tenths (λ m. m ≤ largest → number_from 0 (decimal m) ≡ Is m)
+    by_tenths (λ m. m ≤ largest → number_from 0 (decimal m) ≡ Some m)
     (λ m h l. rw (decimal_digit m h) (one_digit 0 m m h (omega arith) l))
     (λ m h ih l.
     rw (decimal_more m h)
@@ -150,11 +127,13 @@ decimal_first =
     (λ m h l e. omega (arith, rw (decimal_digit m h, lt-ltb m 10 h) at e))
     (λ m h ih l e. ih (omega arith) (rw (decimal_more m h, get_or-append (decimal (m / 10)) (glyph (m % 10) ∷ []) 0 0 (decimal_long (m / 10))) at e))
 
-pub number_read : (m : ℕ) → m ≤ largest → number_of (decimal m) ≡ Is m
-unfolding number_of
+pub number_read : (m : ℕ) → m ≤ largest → number_of (decimal m) ≡ Some m
 number_read zero l = rw (decimal_digit 0 (omega arith)) (one_digit 0 0 0 (omega arith) (omega arith) l)
 number_read (suc m) l =
-    sym (number_plain (decimal (suc m)) (λ e. omega (arith, decimal_long (suc m))) (decimal_first (suc m) (omega arith))) ∙ from_decimal (suc m) l
+    let e = from_decimal (suc m) l in
+    let f = decimal_first (suc m) (omega arith) in
+    let g = decimal_long (suc m) in
+    grind (arith, nat_tests)
 
 -- ---- how many digits there are
 pub decimal_longer : (m : ℕ) → 10 ≤ m → length (decimal m) ≡ length (decimal (m / 10)) + 1

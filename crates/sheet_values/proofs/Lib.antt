@@ -1,6 +1,5 @@
-pub mod Turns
 pub mod Glyphs
-pub mod Words
 pub mod Decimals
+pub mod Words
 pub mod Hex
-pub mod Writes
+pub mod Turns

@@ -1,8 +1,7 @@
 -- How the values of a sheet's lines are spelled. Assumes nothing.
-use Rattle.std.specs.Prelude.{List, [], ◌∷◌, ◌++◌, ℕ, zero, suc, ◌+◌, ◌-◌, ◌/◌, ◌%◌, ltb}
+use Rattle.std.specs.Prelude.{List, [], ◌∷◌, ◌++◌, ℕ, zero, suc, ◌+◌, ◌-◌, ◌/◌, ◌%◌, cond, nat_lt}
 use Prim.Native.Char.{code as code_point}
 use Prim.Native.String.{String, [] as ε, ◌∷◌ as ◌▹◌}
-use Rattle.maths.specs.Tests.{pick}
 use Rattle.sheet_values.specs.declared.Op.{Op}
 use Rattle.sheet_values.specs.declared.Op.TheVariants.{Encode, Bf, Ms}
 
@@ -13,12 +12,12 @@ ascii (c ▹ s) = code_point c ∷ ascii s
 
 -- a digit below 16: 0 to 9, then a to f
 abbrev pub glyph : ℕ → ℕ
-glyph d = pick (ltb d 10) (48 + d) (97 + (d - 10))
+glyph d = cond (nat_lt d 10) (48 + d) (97 + (d - 10))
 
 -- a number in decimal, "no leading zeros": below ten its digit, else the digits of its tenth and then its last; at most depth are split off
 unfoldable pub decimal_in : ℕ → ℕ → List ℕ
 decimal_in zero n = glyph n ∷ []
-decimal_in (suc depth) n = pick (ltb n 10) (glyph n ∷ []) (decimal_in depth (n / 10) ++ glyph (n % 10) ∷ [])
+decimal_in (suc depth) n = cond (nat_lt n 10) (glyph n ∷ []) (decimal_in depth (n / 10) ++ glyph (n % 10) ∷ [])
 
 unfoldable pub decimal : ℕ → List ℕ
 decimal n = decimal_in n n

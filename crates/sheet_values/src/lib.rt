@@ -3,152 +3,98 @@
 #![tactic(auto)]
 
 ghost use Rattle.std.specs.Prelude.{true, ◌≡◌, ◌≤◌, ◌*◌, length};
+ghost use Rattle.std.specs.List.{list_all};
 ghost use Rattle.std.proofs.lemmas.List.Edits.{sets};
-ghost use Rattle.sheet_values.specs.Values.{value_of, digit_of, number_of, number_from, begins, same, op_of, hex_text, unhex, unhexed};
+ghost use Rattle.sheet_values.specs.Values.{value_of, decimal_value, digit_of, number_of, number_from, op_of, hex_digit, hex_text, unhex, unhexed};
 
-// The largest limit that a sheet can give.
-const LARGEST: usize = 4294967295;
-
-// A number, or a text that is none.
-#[derive(Clone, Copy)]
-pub enum Number {
-    Is(usize),
-    NoNumber,
-}
-
-#[derive(Clone, Copy)]
+#[derive(Clone, Copy, Debug, PartialEq, Eq)]
 pub enum Op {
     Encode,
     Bf,
     Ms,
 }
 
-// An operation, or a text that names none.
-#[derive(Clone, Copy)]
-pub enum Named {
-    Names(Op),
-    NoName,
-}
-
-// The value of a digit of lower-case hex, and 16 where the byte is none.
-fn value_of(b: u8) -> usize
+// The value of a digit of lower-case hex. (By hand: `to_digit` takes upper case too.)
+#[tactic(auto, unfolding(crate::specs::Values::value_of))]
+fn value_of(b: u8) -> Option<u8>
     ensures { result ≡ value_of b }
 {
     match b {
-        b'0'..=b'9' => (b - b'0') as usize,
-        b'a'..=b'f' => (b - b'a') as usize + 10,
-        _ => 16,
+        b'0'..=b'9' => Some(b - b'0'),
+        b'a'..=b'f' => Some(b - b'a' + 10),
+        _ => None,
     }
 }
 
-pub fn digit_of(v: &[u8]) -> Number
+fn decimal_value(b: u8) -> Option<u8>
+    ensures { result ≡ decimal_value b }
+{
+    value_of(b).filter(|&d| d < 10)
+}
+
+pub fn digit_of(v: &[u8]) -> Option<usize>
     ensures { result ≡ digit_of v.now }
 {
-    if v.len() != 1 {
-        return Number::NoNumber;
-    }
-    let d = value_of(v[0]);
-    if d < 10 {
-        Number::Is(d)
-    } else {
-        Number::NoNumber
-    }
+    let &[b] = v else {
+        return None;
+    };
+    Some(usize::from(decimal_value(b)?))
 }
 
-fn number_from(v: &[u8]) -> Number
+// (By hand: `parse` takes a plus sign too.)
+fn number_from(v: &[u8]) -> Option<u32>
     ensures { result ≡ number_from 0 v.now }
 {
-    let mut n: usize = 0;
-    for i in 0..v.len() {
-        let d = value_of(v[i]);
-        if d >= 10 {
-            return Number::NoNumber;
-        }
-        n = 10 * n + d;
-        if n > LARGEST {
-            return Number::NoNumber;
-        }
+    let mut n: u32 = 0;
+    for &b in v {
+        let d = decimal_value(b)?;
+        n = n.checked_mul(10)?.checked_add(u32::from(d))?;
     }
-    Number::Is(n)
+    Some(n)
 }
 
 // A number in decimal, without leading zeros.
-pub fn number_of(v: &[u8]) -> Number
+pub fn number_of(v: &[u8]) -> Option<u32>
     ensures { result ≡ number_of v.now }
 {
-    if v.len() == 0 {
-        return Number::NoNumber;
+    match v {
+        [] | [b'0', _, ..] => None,
+        _ => number_from(v),
     }
-    if v.len() > 1 {
-        if v[0] == b'0' {
-            return Number::NoNumber;
-        }
-    }
-    number_from(v)
 }
 
-// The text starts with the word.
-pub fn starts_with(s: &[u8], word: &[u8]) -> bool
-    ensures { result ≡ begins word.now s.now }
-{
-    if s.len() < word.len() {
-        return false;
-    }
-    for i in 0..word.len() {
-        if s[i] != word[i] {
-            return false;
-        }
-    }
-    true
-}
-
-fn is(v: &[u8], word: &[u8]) -> bool
-    ensures { result ≡ same word.now v.now }
-{
-    if v.len() != word.len() {
-        return false;
-    }
-    starts_with(v, word)
-}
-
-pub fn op_of(v: &[u8]) -> Named
+pub fn op_of(v: &[u8]) -> Option<Op>
     ensures { result ≡ op_of v.now }
 {
-    if is(v, b"encode") {
-        return Named::Names(Op::Encode);
+    match v {
+        b"encode" => Some(Op::Encode),
+        b"bf" => Some(Op::Bf),
+        b"ms" => Some(Op::Ms),
+        _ => None,
     }
-    if is(v, b"bf") {
-        return Named::Names(Op::Bf);
-    }
-    if is(v, b"ms") {
-        return Named::Names(Op::Ms);
-    }
-    Named::NoName
+}
+
+fn all_hex(v: &[u8]) -> bool
+    ensures { result ≡ list_all hex_digit v.now }
+{
+    v.iter().all(|&b| value_of(b).is_some())
 }
 
 // Pairs of hex digits, and nothing else.
+#[tactic(auto, unfolding(crate::specs::Values::hex_text))]
 pub fn is_hex(v: &[u8]) -> bool
     ensures { result ≡ hex_text v.now }
 {
-    if v.len() % 2 != 0 {
-        return false;
-    }
-    for i in 0..v.len() {
-        if value_of(v[i]) >= 16 {
-            return false;
-        }
-    }
-    true
+    v.len() % 2 == 0 && all_hex(v)
 }
 
 fn put_bytes(digits: &[u8], out: &mut [u8])
     requires { (hex_text digits.now ≡ true) × (length digits.now ≤ 2 * length out.old) }
     ensures { out.new ≡ sets out.old 0 (unhex digits.now) }
 {
-    for j in 0..digits.len() / 2 {
-        let high = value_of(digits[2 * j]);
-        let low = value_of(digits[2 * j + 1]);
-        out[j] = (16 * high + low) as u8;
+    let (pairs, _) = digits.as_chunks::<2>();
+    for (j, &[high, low]) in pairs.iter().enumerate() {
+        out[j] = 16 * value_of(high).unwrap() + value_of(low).unwrap();
     }
 }
 
@@ -156,11 +102,7 @@ fn put_bytes(digits: &[u8], out: &mut [u8])
 pub fn hex_bytes(digits: &[u8], out: &mut [u8])
     ensures { out.new ≡ unhexed digits.now out.old }
 {
-    if !is_hex(digits) {
-        return;
+    if is_hex(digits) && digits.len() / 2 <= out.len() {
+        put_bytes(digits, out);
     }
-    if digits.len() / 2 > out.len() {
-        return;
-    }
-    put_bytes(digits, out)
 }

@@ -1,11 +1,8 @@
-use Rattle.labrador_ldpc.proofs.Rows.{params_ten, params_unknown, params_short}
+use borrow.Author.Tests.{eq-eqb}
+use Rattle.codes.proofs.Rows.{row_given, answered}
 use Rattle.labrador_ldpc.proofs.ldpc_params.Goals as goal
 
 pub returns-then-to-eq10 : goal.returns-then-to-eq10
-returns-then-to-eq10 c = params_ten c.args.code c.args.to.now c.params-asked.ensures c.if-to-eq10.true c.put_row.ensures
-
-pub returns-then-asked-ne-ACCEPTED : goal.returns-then-asked-ne-ACCEPTED
-returns-then-asked-ne-ACCEPTED c = params_unknown c.args.code c.args.to.now c.params-asked.ensures c.if-to-eq10.false c.if-asked-ne-ACCEPTED.true
-
-pub returns : goal.returns
-returns c = params_short c.args.code c.args.to.now c.params-asked.ensures c.if-to-eq10.false c.if-asked-ne-ACCEPTED.false
+returns-then-to-eq10 c =
+    let r = row_given c.args.code _ _ c.params-asked.ensures c.unwrap_or_default.ensures in
+    rw (c.copy_from_slice.ensures.after, c.numbers.ensures, r, c.answer.ensures, c.params-asked.ensures, eq-eqb _ 10 c.if-to-eq10.true, answered c.args.code)

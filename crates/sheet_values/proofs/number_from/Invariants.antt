@@ -1,11 +1,7 @@
-use Prim.Native.Nat.{◌-◌}
-use lib.ListN.{length}
-use Rattle.sheet_values.proofs.Turns.{Digits}
+use Rattle.std.proofs.Common.{◌≡◌, drop}
+use Rattle.sheet_values.specs.Values.{number_from}
 use Rattle.sheet_values.proofs.number_from.Given as goal
 
--- n is the number that the first i digits say
-abbrev pub invariant-loop-i : goal.invariant-loop-i
-invariant-loop-i l = Digits l.v l.n l.i
-
-abbrev pub decreases-loop-i : goal.decreases-loop-i
-decreases-loop-i l = length l.v - l.i
+-- n is the number that the digits so far say
+abbrev pub invariant-loop-b : goal.invariant-loop-b
+invariant-loop-b l = number_from l.n (drop l.b-index l.v) ≡ number_from 0 l.v

@@ -1,11 +1,12 @@
-use Prim.Native.Nat.{◌-◌, ◌/◌}
-use lib.ListN.{length}
-use Rattle.sheet_values.proofs.Writes.{Unhexing}
+use Rattle.std.proofs.Common.{◌≡◌, ◌*◌, length, drop}
+use Rattle.std.proofs.lemmas.List.Edits.{sets}
+use Rattle.sheet_values.specs.Values.{unhex}
 use Rattle.sheet_values.proofs.put_bytes.Given as goal
 
--- the first j bytes are written
+-- the bytes before j are written
 abbrev pub invariant-loop-j : goal.invariant-loop-j
-invariant-loop-j l = Unhexing l.digits l.initial.out l.j l.out
-
-abbrev pub decreases-loop-j : goal.decreases-loop-j
-decreases-loop-j l = length l.digits / 2 - l.j
+invariant-loop-j l =
+    record {
+      long : length l.out ≡ length l.initial.out;
+      rest : sets l.out l.j (unhex (drop (2 * l.j) l.digits)) ≡ sets l.initial.out 0 (unhex l.digits);
+    }

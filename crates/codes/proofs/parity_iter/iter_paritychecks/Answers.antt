@@ -1,22 +1,15 @@
-use mathlib.Core.Path.{◌∙◌, ap}
-use mathlib.Core.List.{List}
-use Prim.Native.Nat.{ℕ}
-use borrow.Author.Tests.{lt-ltb, le-ltb}
-use Rattle.codes.specs.declared.parity_iter.ParityIter.{ParityIter}
-use Rattle.codes.specs.Blocks.{head_of, blocks}
+use Rattle.std.proofs.lemmas.Result.{err_from_is_err_and}
+use Rattle.codes.specs.Walk.{new_of}
 use Rattle.codes.specs.Edges.{blocks_of}
-use Rattle.codes.specs.Walk.{start_at, new_of}
+use Rattle.codes.proofs.Codes.{code_known, code_unknown}
 use Rattle.codes.proofs.parity_iter.iter_paritychecks.Goals as goal
 
-pub returns-then-code-lt-CODES : goal.returns-then-code-lt-CODES
+pub returns : goal.returns
 unfolding new_of blocks_of
-returns-then-code-lt-CODES c = simp (lt-ltb _ _ c.if-code-lt-CODES.true)
-    (ap (λ (w : ParityIter). record { answer = 0; walk = w })
-    (c.start_at.ensures
-    ∙ ap (start_at _)
-    (c.first_block.ensures ∙ ap (λ (H : List (List (List ℕ))). head_of (blocks H)) c.prototype_of-h.ensures)))
+returns c = rw (code_known _ c.in_ok-try_from.ensures, c.start_at.ensures, c.first_block.ensures, c.prototype_of-h.ensures)
 
-pub returns-else-code-lt-CODES : goal.returns-else-code-lt-CODES
-unfolding new_of blocks_of
-returns-else-code-lt-CODES c = simp (le-ltb _ _ c.if-code-lt-CODES.false)
-    (ap (λ (w : ParityIter). record { answer = 1; walk = w }) c.start_at-else-code-lt-CODES.ensures)
+pub returns-in_err-try_from : goal.returns-in_err-try_from
+returns-in_err-try_from c =
+    let p = err_from_is_err_and c.from_residual.result c.from_residual.ensures.1 in
+    let k = code_unknown _ c.in_err-try_from.ensures in
+    rw (p.1, p.2, k.0, k.1)

@@ -3,7 +3,4 @@ use Rattle.encoder.proofs.Turning.{Turning}
 use Rattle.encoder.proofs.rotation.rotate_bytes.Given as goal
 
 abbrev pub invariant-loop-i : goal.invariant-loop-i
-invariant-loop-i l = Turning l.initial.codeword l.at l.len l.codeword l.carry l.i
-
-abbrev pub decreases-loop-i : goal.decreases-loop-i
-decreases-loop-i l = l.i
+invariant-loop-i l = Turning l.initial.block l.block l.carry l.i

@@ -1,14 +1,13 @@
-use native.Mathlib.Omega.{arith}
-use lib.Seq.{take_all}
-use Rattle.maths.proofs.Slices.{lent_long}
-use Rattle.sheet_text.specs.Printing.{max_output}
+use Rattle.std.proofs.Common.{Bool, ◌≡◌, true, false, refl, ◌∙◌}
+use Rattle.report.specs.Report.{flag}
+use Rattle.sheet_text.proofs.Digits.{printed_lines}
 use Rattle.sheet_text.proofs.print.print.Goals as goal
 
-pub slice_bounds-print_all-end : goal.slice_bounds-print_all-end
-slice_bounds-print_all-end c = lent_long max_output c.args.output.now (omega arith)
-
-pub print_all-requires : goal.print_all-requires
-print_all-requires c = omega (arith, lent_long max_output c.args.output.now (omega arith))
-
 pub returns : goal.returns
-returns c = rw (take_all max_output c.args.output.now c.if-output-gt-MAX_OUTPUT.false) c.print_all-2.ensures
+returns c =
+    printed_lines _ _ c.args.r.success c.args.output.now c.new-text.ensures c.from.ensures c.number_line.ensures.text (c.from-2.ensures ∙ as_flag c.args.r.success)
+    c.number_line-2.ensures.text c.number_line-3.ensures.text c.min.ensures c.hex_line.ensures
+  where
+    as_flag : (b : Bool) → mir.Val.bool_byte b ≡ flag b
+    as_flag true = refl
+    as_flag false = refl

@@ -1,8 +1,9 @@
-use Rattle.sheet_text.proofs.Lines.{read_long, read_short}
+use Rattle.std.proofs.Common.{arith}
+use Rattle.std.proofs.lemmas.Grind.{common_steps}
+use Rattle.sheet_text.specs.Reading.{parse}
+use Rattle.sheet_text.proofs.Digits.{hex_unhex}
 use Rattle.sheet_text.proofs.read.read.Goals as goal
 
-pub returns-then-text-gt-LONGEST : goal.returns-then-text-gt-LONGEST
-returns-then-text-gt-LONGEST c = read_long _ c.if-text-gt-LONGEST.true
-
-pub returns : goal.returns
-returns c = read_short _ _ c.if-text-gt-LONGEST.false c.code_line.ensures
+pub returns-clause-parts : goal.returns-clause-parts
+unfolding parse
+returns-clause-parts c = grind (arith, common_steps, hex_unhex)

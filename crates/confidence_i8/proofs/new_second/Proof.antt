@@ -1,9 +1,0 @@
-use Rattle.min_sum.proofs.Leaves.{soft}
-use Rattle.confidence_i8.proofs.new_second.Statement.{statement}
-use Rattle.confidence_i8.proofs.new_second.Tie as tie
-
-pub new_second_spec : {M : Type 1} → statement M
-new_second_spec =
-    tie.close
-    (tie.spec
-    (λ c κs. search soft) (λ c κs. search soft) (λ c κs. search soft) (λ c κs. search soft) (λ c κs. search soft) (λ c. search soft))

@@ -1,8 +1,0 @@
-use Rattle.sheet_text.proofs.Writes.{rooms}
-use Rattle.sheet_text.proofs.print.hex_line.Goals as goal
-
-pub put_word-requires : goal.put_word-requires
-put_word-requires c = search rooms
-
-pub returns : goal.returns
-returns c = search rooms
