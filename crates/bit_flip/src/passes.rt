@@ -37,6 +37,7 @@ fn one_pass(runs: &FewRuns, bits: &mut [u8], checks: &mut [u8]) -> bool
     false
 }
 
+// (As min_sum_i8's, but for the pass: see there.)
 pub(crate) fn run_passes(runs: &FewRuns, bits: &mut [u8], checks: &mut [u8], limit: usize) -> Ended
     requires { Bits bits.old }
     ensures { end result.success result.iters bits.new ≡ passes (laid (length checks.old) (length bits.old) runs.now) (length checks.old) limit bits.old }

@@ -58,6 +58,7 @@ pub fn pack(bits: &[u8], bytes: &mut [u8])
 }
 
 // The largest byte; 0 where there is none.
+// (By a loop: of the same by `fold` the check finds no proof, and `max` of an iterator answers an Option.)
 pub fn largest(s: &[u8]) -> u8
     ensures { result ≡ largest_of s.now }
 {

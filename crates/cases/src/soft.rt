@@ -3,7 +3,7 @@ ghost use Rattle.std.specs.Prelude.{map, ◌≡◌};
 ghost use Rattle.maths.specs.Tests.{Agrees};
 ghost use Rattle.cases.specs.Cases.{signed, softened};
 
-// Slices of two lengths stay as they are.
+// Slices of different lengths stay as they are.
 pub fn soften(bytes: &[u8], soft: &mut [i8])
     ensures { soft.new ≡ softened bytes.now soft.old }
 {

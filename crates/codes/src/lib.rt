@@ -32,7 +32,7 @@ pub const MAX_SIGNS: usize = 768;
 // No TC code has more checks. Room for all takes such a frame longer to clear, so the decoders make it of one of two sizes.
 pub const FEW_CHECKS: usize = 256;
 
-// Of no code: all zeros, by Default.
+// The numbers of a code; by Default those of none, all zeros.
 #[derive(Clone, Copy, Debug, Default, PartialEq, Eq)]
 pub struct CodeParams {
     // Bits sent.
@@ -291,7 +291,7 @@ impl Code {
     }
 }
 
-// The tables of a code; the first ones where it is not known.
+// The tables of a code; the first ones where it is not known, which `prototype_of` and `phi_of` promise of any number.
 fn tables_of(code: usize) -> MatrixTables
     ensures { result ≡ tables_of code }
 {

@@ -1,4 +1,4 @@
-// The walk over the edges of a parity check matrix, by value. (Rust: ParityIter and iter_paritychecks of codes/mod.rs)
+// The walk over the edges of a parity check matrix. (Rust: ParityIter and iter_paritychecks of codes/mod.rs)
 ghost use Rattle.std.specs.Prelude.{◌≡◌, [], ◌<◌, ◌≤◌, ◌%◌};
 ghost use Rattle.std.specs.Iterator.{item_count};
 ghost use Rattle.codes.specs.Codes.{made, max_block};
@@ -124,7 +124,8 @@ fn permutation_column(m: usize, theta: &[u8; 26], phi: &[[u16; 26]; 4], v: usize
     q * ((usize::from(theta[v]) + j) % 4) + (usize::from(phi[j][v]) + i) % q
 }
 
-// A walk stands at an edge: row i of a block. Where its numbers are no edge's, it is finished.
+// A walk stands at an edge: row i of a block. Where its numbers are no edge's, it is finished: so they are any numbers, and not a `Code` and a
+// `Place` (`stands`).
 #[derive(Clone, Copy, Debug, PartialEq, Eq)]
 pub struct ParityIter {
     pub code: usize,

@@ -25,7 +25,7 @@ impl Refusal {
     pub fn number(self) -> u8
         ensures { result ≡ number self }
     {
-        self as u8
+        self as u8 // From has no enum's number
     }
 }
 

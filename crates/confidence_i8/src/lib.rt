@@ -15,7 +15,7 @@ pub mod llrs;
 // The largest number.
 pub const TOP: i8 = i8::MAX;
 
-// The number nearest to s. A sum or a difference that is clamped becomes one instruction on whole vectors; saturating_add and its like compare,
+// The number nearest to s, which fits an i8 then: TryFrom would test it again. A sum or a difference that is clamped becomes one instruction on whole vectors; saturating_add and its like compare,
 // and the loops over edges took twice as long with them.
 fn nearest(s: i16) -> i8
     ensures { result ≡ clamp 127 s }
@@ -77,7 +77,8 @@ pub fn new_first(v: i8, first: i8) -> i8
     ensures { result ≡ new_first i8 (i8.magnitude v) first }
 {
     let m = magnitude(v);
-    if m < first { m } else { first } // not `min`, which compares the other way: this test is new_second's too
+    // Not `min`: document 01's "strictly below" is the test, here and in new_second, and an edit weakens it there.
+    if m < first { m } else { first }
 }
 
 pub fn new_second(v: i8, first: i8, second: i8) -> i8

@@ -10,7 +10,7 @@ use crate::rotation::rotate_block;
 use crate::words::put_words;
 use codes::CodeParams;
 
-// Bit i of a byte string, the highest of a byte first.
+// Bit i of a byte string, the highest of a byte first. (By hand: no method of slices counts bits.)
 fn bit_at(s: &[u8], i: usize) -> u8
     requires { i < length s.now * 8 }
     ensures { result ≡ bit_at s.now i }

@@ -190,6 +190,7 @@ impl<'a> Messages<'a> {
         ensures { self.new ≡ over_edges S.after self.old }
     {
         let runs = self.runs;
+        // Where a run's edges begin is a sum over the runs before it, and no index of one.
         let mut e = 0;
         for run in runs {
             self.over_run::<S>(e, *run);

@@ -10,7 +10,7 @@ use runs::{EdgeRun, MAX_RUNS};
 
 // The working buffer has u and then v, an element for each edge; the marginals, one for each bit; the first minima and then the second, one for
 // each check.
-#[derive(Clone, Copy)]
+#[derive(Clone, Copy, Debug, PartialEq, Eq)]
 pub struct Layout {
     pub edges: usize,
     pub bits: usize,

@@ -27,6 +27,7 @@ fn run_case(
     if !filled(list, read) || !filled(list, want) {
         return false;
     }
+    // A match, and no table of functions: each operation takes other buffers.
     match c.op {
         Operation::Encoders => encoders(c, read, want, output),
         Operation::BitFlipping => bit_flipping(c, row, read, want, output),

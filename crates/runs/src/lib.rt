@@ -16,8 +16,8 @@ pub mod steps;
 // No code has more runs.
 pub const MAX_RUNS: usize = 264;
 
-// One run: its first check, its first bit, and how many edges (check + i, bit + i) it has. Runs are read over and over, and this is a third of
-// what three usize take.
+// One run: its first check, its first bit, and how many edges (check + i, bit + i) it has. Runs are read over and over, and this is a quarter
+// of what three usize take.
 #[derive(Clone, Copy, Debug, Default, PartialEq, Eq)]
 pub struct EdgeRun {
     pub check: u16,
@@ -58,7 +58,7 @@ struct Matrix<'a> {
     prototype: &'a [[[u8; 11]; 4]; 3],
 }
 
-// A list of runs.
+// A list of runs, in fixed memory: no code needs a heap.
 #[derive(Drop)]
 pub struct Runs {
     count: usize,
@@ -68,12 +68,13 @@ pub struct Runs {
 impl Model for Runs {
     ghost use Rattle.std.specs.Prelude.{List, take, ◌≤◌};
     ghost use Rattle.runs.specs.declared.EdgeRun.{EdgeRun};
+    ghost use Rattle.runs.specs.Runs.{room};
 
     ghost Value = { List EdgeRun };
 
     ghost view = { λ r. take r.count r.list };
 
-    ghost invariant = { λ r. r.count ≤ 264 };
+    ghost invariant = { λ r. r.count ≤ room };
 }
 
 impl Runs {
@@ -181,7 +182,7 @@ impl Runs {
         self.push_block(matrix, block, kind);
     }
 
-    // The blocks are found as the walk finds them.
+    // The blocks are found as the walk finds them, in the same words: `successors` would hold a closure over the table.
     fn fill(&mut self, matrix: &Matrix)
         requires { (self.old ≡ []) × RunsFit (made_of matrix.now) }
         ensures { self.new ≡ flat_map (block_runs (made_of matrix.now)) (blocks matrix.now.prototype.now) }

@@ -39,7 +39,7 @@ pub fn put_at_checks<S: Step>(runs: &[EdgeRun], bits: &[u8], checks: &mut [u8])
     }
 }
 
-// And one at the bit of each edge.
+// And one at the bit of each edge. (Apart from the other: which end is written and which is read stands in the signature.)
 pub fn put_at_bits<S: Step>(runs: &[EdgeRun], checks: &[u8], bits: &mut [u8])
     ensures { bits.new ≡ fold (put bit_of check_of S.op (word_of checks.now)) (laid (length checks.now) (length bits.old) runs.now) bits.old }
 {

@@ -36,6 +36,7 @@ fn flip_byte(top: u8, x: u8) -> u8
     if x / 2 == top { 1 - x % 2 } else { x % 2 }
 }
 
+// (A loop of one line, as those of votes.rt: a function over a closure would be no plainer.)
 pub fn flip_bytes(bits: &mut [u8], top: u8)
     ensures { bits.new ≡ map (flip_byte top) bits.old }
 {

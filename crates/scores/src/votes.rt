@@ -18,15 +18,18 @@ impl Step for AddErased {
     }
 }
 
+#[tactic(auto, unfolding(crate::specs::Votes::vote_byte))]
 fn vote_byte(x: u8) -> u8
     ensures { result ≡ vote_byte x }
 {
-    if x == 3 {
-        return 2;
+    match x {
+        3 => 2,
+        2 => 254,
+        _ => 0,
     }
-    if x == 2 { 254 } else { 0 }
 }
 
+// (A loop of one line: see flip_bytes.)
 fn vote_bytes(checks: &mut [u8])
     ensures { checks.new ≡ map vote_byte checks.old }
 {
@@ -35,6 +38,7 @@ fn vote_bytes(checks: &mut [u8])
     }
 }
 
+#[tactic(auto, unfolding(crate::specs::Votes::settle_byte))]
 fn settle_byte(x: u8) -> u8
     ensures { result ≡ settle_byte x }
 {
@@ -42,12 +46,10 @@ fn settle_byte(x: u8) -> u8
         return x % 2;
     }
     let votes = x / 4;
-    if votes == 0 {
-        return 0;
-    }
-    if votes < 32 { 1 } else { 0 }
+    u8::from(votes > 0 && votes < 32)
 }
 
+// (A loop of one line: see flip_bytes.)
 pub fn settle_bytes(bits: &mut [u8])
     ensures { bits.new ≡ map settle_byte bits.old }
 {

@@ -54,6 +54,7 @@ fn answer(text: &[u8]) -> Result<Answer, Refused>
     let mut frame = [0u8; 4080];
     hex_bytes(q.frame, &mut frame);
     let frame = &frame[..q.frame.len() / 2];
+    // A match, and no table of functions: each operation has buffers of its own.
     match q.op {
         Op::Encode => encode(q.code, frame),
         Op::Bf => flip(q.code, frame, q.limit),

@@ -58,6 +58,7 @@ pub(crate) fn flip(code: usize, frame: &[u8], limit: usize) -> Result<Answer, Re
 pub(crate) fn soft(code: usize, frame: &[u8], limit: usize) -> Result<Answer, Refused>
     ensures { text_of result ≡ operation Ms code limit frame.now }
 {
+    // A code by its number, as the sheet gives it.
     if code == TOO_LARGE {
         return Err(Refused::NoRoom);
     }

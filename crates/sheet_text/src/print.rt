@@ -13,7 +13,7 @@ const MAX_OUTPUT: usize = 1280;
 // Room for that, and for one more line.
 const ROOM: usize = 2720;
 
-// The text of an answer, at the front of the bytes.
+// The text of an answer, at the front of the bytes: fixed memory, no heap.
 #[derive(Drop)]
 pub struct Answer {
     bytes: [u8; ROOM],
@@ -53,6 +53,7 @@ impl Answer {
         self.len = end;
     }
 
+    // (By hand, as `put_decimal`.)
     fn put_digit(&mut self, d: u8)
         requires room { length self.old < room }
         requires digit { d < 16 }

@@ -32,6 +32,7 @@ fn decimal_value(b: u8) -> Option<u8>
     value_of(b).filter(|&d| d < 10)
 }
 
+// (By hand: `parse` takes a plus sign too.)
 pub fn digit_of(v: &[u8]) -> Option<usize>
     ensures { result ≡ digit_of v.now }
 {
