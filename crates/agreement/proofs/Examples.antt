@@ -84,6 +84,7 @@ examples =
       magnitude = refl;
       hard_bit = refl;
       rotation = refl;
+      begins = refl;
       walk = rw (begin 0) (edge_count 0 (omega arith));
       zero_data = zero_frame;
       one_bit = refl;

@@ -1,7 +1,7 @@
 -- The examples of document 01 that are marked P, and its whole sheet, as one claim about the definitions. Assumes nothing.
-use Rattle.std.specs.Prelude.{true, false, List, [], ◌∷◌, ◌≡◌, ℕ, ◌-◌, ◌/◌, ◌%◌, ◌^◌, IsOkAnd, ℤ, pos, negsuc, length, get_or, drop, replicate}
+use Rattle.std.specs.Prelude.{true, false, List, [], ◌∷◌, ◌≡◌, ℕ, ◌-◌, ◌/◌, ◌%◌, ◌^◌, ℤ, pos, negsuc, length, get_or, drop, replicate}
 use Rattle.maths.specs.Lists.{span}
-use Rattle.codes.specs.Answers.{answer_of, first_of}
+use Rattle.codes.specs.Answers.{first_of}
 use Rattle.codes.specs.Codes.{Known, row_of, params_of, generator_of}
 use Rattle.codes.specs.Edges.{identity_column}
 use Rattle.codes.specs.Walk.{remaining, begun_of}
@@ -31,7 +31,8 @@ pub record Examples : Type 0 where
   -- "the 16-bit block 8001 (hex) rotated left by one is 0003."
   pub rotation : rotated (0x80 ∷ 0x01 ∷ []) 0 2 ≡ 0x00 ∷ 0x03 ∷ []
   -- "TC128 walk: 512 edges."
-  pub walk : IsOkAnd (begun_of 0) (λ walk. length (remaining walk) ≡ 512)
+  pub begins : (begun_of 0).answer ≡ 0
+  pub walk : length (remaining (begun_of 0).walk) ≡ 512
   -- "zero data encodes to zeros."
   pub zero_data : (code : ℕ) → Known code → encoded_bytes code (zeros ((row_of code).k / 8)) ≡ zeros ((row_of code).n / 8)
   -- "TC128 data with only bit 0 set: parity is the first generator word, high byte first."
@@ -46,13 +47,13 @@ pub record Examples : Type 0 where
       → decode_outcome i8 code (replicate (row_of code).n (pos 0)) old working signs 1
       ≡ left (ending true 0) (zeros (row_of code).output_len) (replicate (length working) (pos 0)) (zeros (length signs))
   -- "code 8 accepted, 9 refused 1": by the parameters, both encoders and both decoders, with the lengths that the code asks for
-  pub last_code : answer_of (params_of 8) ≡ 0
+  pub last_code : (params_of 8).answer ≡ 0
   pub last_encode : first_of (encode_tests 8 ((row_of 8).n / 8)) ≡ 0
   pub last_copy : first_of (copy_tests 8 ((row_of 8).k / 8) ((row_of 8).n / 8)) ≡ 0
   pub last_flip : let r = row_of 8 in first_of (flip.tests 8 (r.n / 8) r.output_len r.decode_bf_working_len) ≡ 0
   pub last_soft : let r = row_of 8 in decode_answer 8 r.n r.output_len r.decode_ms_working_len r.decode_ms_working_u8_len ≡ 0
   -- and with any lengths
-  pub no_code : answer_of (params_of 9) ≡ 1
+  pub no_code : (params_of 9).answer ≡ 1
   pub no_encode : (codeword : ℕ) → first_of (encode_tests 9 codeword) ≡ 1
   pub no_copy : (message codeword : ℕ) → first_of (copy_tests 9 message codeword) ≡ 1
   pub no_flip : (input output working : ℕ) → first_of (flip.tests 9 input output working) ≡ 1

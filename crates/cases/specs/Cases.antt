@@ -22,9 +22,10 @@ number Sheet = 6
 abbrev pub Numbers : ℕ → Result Operation UnknownOperation → Type 0
 Numbers n r = MatchResult r (λ op. number op ≡ n) (λ e. ((op : Operation) → number op ≢ n) × (e ≡ record { 0 = n }))
 
--- the case that the bytes of a head stand for
+-- the case that the bytes of a head stand for, and its operation
 pub record Headed (bytes : List ℕ) (c : Case) : Type 0 where
-  pub op : number c.op ≡ get_or bytes 0 0
+  pub op : c.op ≡ get_or bytes 0 0
+  pub known : (op : Operation) × (number op ≡ c.op)
   pub code : c.code ≡ get_or bytes 1 0
   pub limit : c.limit ≡ get_or bytes 2 0
   pub success : c.ended.success ≡ eqb (get_or bytes 3 0) 1
@@ -36,7 +37,7 @@ pub record Headed (bytes : List ℕ) (c : Case) : Type 0 where
 abbrev pub Heads : List ℕ → Result Case UnknownOperation → Type 0
 Heads bytes r = MatchResult r (Headed bytes) (λ e. ((op : Operation) → number op ≢ get_or bytes 0 0) × (e ≡ record { 0 = get_or bytes 0 0 }))
 
--- how many bytes an operation reads
+-- how many bytes an operation reads; `read_len` says it by number, and of a number that no operation has
 abbrev pub bytes_read : Operation → Case → CodeParams → ℕ
 bytes_read Encoders c row = row.k / 8
 bytes_read BitFlipping c row = row.n / 8
@@ -45,8 +46,14 @@ bytes_read HardToLlrs c row = row.n / 8
 bytes_read LlrsToHard c row = row.n
 bytes_read Sheet c row = c.text
 
+-- 1 encoders, 2 bit flipping, 3 min-sum, 4 hard_to_llrs, 5 llrs_to_hard, any other a sheet
 abbrev pub read_len : Case → CodeParams → ℕ
-read_len c row = bytes_read c.op c row
+read_len c row =
+    pick (eqb c.op 1) (row.k / 8)
+    (pick (eqb c.op 2) (row.n / 8)
+    (pick (eqb c.op 3) row.n
+    (pick (eqb c.op 4) (row.n / 8)
+    (pick (eqb c.op 5) row.n c.text))))
 
 -- how many bytes it writes
 abbrev pub bytes_written : Operation → Case → CodeParams → ℕ
@@ -58,7 +65,12 @@ bytes_written LlrsToHard c row = row.n / 8
 bytes_written Sheet c row = c.answer
 
 abbrev pub written_len : Case → CodeParams → ℕ
-written_len c row = bytes_written c.op c row
+written_len c row =
+    pick (eqb c.op 1) (row.n / 8)
+    (pick (eqb c.op 2) row.output_len
+    (pick (eqb c.op 3) row.output_len
+    (pick (eqb c.op 4) row.n
+    (pick (eqb c.op 5) (row.n / 8) c.answer))))
 
 -- the report that a case records: accepted, a success or not, and so many iterations
 abbrev pub recorded : Case → Report

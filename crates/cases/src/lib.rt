@@ -4,12 +4,10 @@
 
 ghost use Rattle.std.specs.Prelude.{◌≡◌};
 ghost use Rattle.maths.specs.Tests.{Agrees};
-ghost use Rattle.report.specs.Report.{report_of};
 ghost use Rattle.cases.specs.Cases.{Numbers, Heads, read_len, written_len, recorded};
 
 use codes::CodeParams;
-use codes::refusal::Refusal;
-use report::Ended;
+use report::{Ended, Report};
 
 pub mod soft;
 
@@ -46,10 +44,11 @@ impl TryFrom<u8> for Operation {
     }
 }
 
-// The head of a case: its operation, the code, the limit, and what the Rust reported; of a sheet how long the text and the answer are.
+// The head of a case: the number of its operation, the code, the limit, and what the Rust reported; of a sheet how long the text and the
+// answer are. (A number: `read_len` and `written_len` take any, and what is no other operation's is measured as a sheet.)
 #[derive(Clone, Copy, Debug, PartialEq, Eq)]
 pub struct Case {
-    pub op: Operation,
+    pub op: u8,
     pub code: usize,
     pub limit: usize,
     pub ended: Ended,
@@ -66,9 +65,9 @@ impl TryFrom<[u8; HEAD]> for Case {
     ghost try_from_gives = { Heads };
 
     fn try_from(bytes: [u8; HEAD]) -> Result<Self, UnknownOperation> {
-        let op = Operation::try_from(bytes[0])?;
+        Operation::try_from(bytes[0])?;
         Ok(Case {
-            op,
+            op: bytes[0],
             code: usize::from(bytes[1]),
             limit: usize::from(bytes[2]),
             ended: Ended {
@@ -85,11 +84,12 @@ impl TryFrom<[u8; HEAD]> for Case {
 pub fn read_len(c: Case, row: CodeParams) -> usize
     ensures { result ≡ read_len c row }
 {
-    match c.op {
-        Operation::Encoders => row.k / 8,
-        Operation::BitFlipping | Operation::HardToLlrs => row.n / 8,
-        Operation::MinSum | Operation::LlrsToHard => row.n,
-        Operation::Sheet => c.text,
+    match Operation::try_from(c.op) {
+        Ok(Operation::Encoders) => row.k / 8,
+        Ok(Operation::BitFlipping | Operation::HardToLlrs) => row.n / 8,
+        Ok(Operation::MinSum | Operation::LlrsToHard) => row.n,
+        Ok(Operation::Sheet) => c.text,
+        Err(_) => c.text,
     }
 }
 
@@ -97,17 +97,18 @@ pub fn read_len(c: Case, row: CodeParams) -> usize
 pub fn written_len(c: Case, row: CodeParams) -> usize
     ensures { result ≡ written_len c row }
 {
-    match c.op {
-        Operation::Encoders | Operation::LlrsToHard => row.n / 8,
-        Operation::HardToLlrs => row.n,
-        Operation::BitFlipping | Operation::MinSum => row.output_len,
-        Operation::Sheet => c.answer,
+    match Operation::try_from(c.op) {
+        Ok(Operation::Encoders | Operation::LlrsToHard) => row.n / 8,
+        Ok(Operation::HardToLlrs) => row.n,
+        Ok(Operation::BitFlipping | Operation::MinSum) => row.output_len,
+        Ok(Operation::Sheet) => c.answer,
+        Err(_) => c.answer,
     }
 }
 
 // Whether a decoder reports what the Rust did.
-pub fn reported(r: Result<Ended, Refusal>, c: Case) -> bool
-    ensures { Agrees result (report_of r ≡ recorded c) }
+pub fn reported(r: Report, c: Case) -> bool
+    ensures { Agrees result (r ≡ recorded c) }
 {
-    r == Ok(c.ended)
+    r == Report::from(c.ended)
 }

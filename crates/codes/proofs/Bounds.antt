@@ -6,7 +6,7 @@ use mir.Syntax.{w64}
 use mir.Val.{Fits}
 use Rattle.codes.specs.declared.CodeParams.{CodeParams}
 use Rattle.std.specs.Prelude.{Ok}
-use Rattle.codes.specs.Codes.{row_of, params_of, max_bits, max_checks}
+use Rattle.codes.specs.Codes.{row_of, params_at, max_bits, max_checks}
 use Rattle.codes.specs.Sound.{Bounded}
 use Rattle.codes.proofs.Codes.{bounded, asked_known}
 
@@ -14,7 +14,7 @@ use Rattle.codes.proofs.Codes.{bounded, asked_known}
 pub row_bounded : (code : ℕ) (row : CodeParams) → row ≡ row_of code → Bounded row
 row_bounded code row is = rw is (bounded code)
 
-pub answer_bounded : (code : ℕ) (row : CodeParams) → Ok row ≡ params_of code → Bounded row
+pub answer_bounded : (code : ℕ) (row : CodeParams) → Ok row ≡ params_at code → Bounded row
 answer_bounded code row e = row_bounded code row (asked_known code e).1
 
 module _ (row : CodeParams) (b : Bounded row) where

@@ -21,7 +21,7 @@ use Rattle.codes.specs.declared.parity_iter.Block.{Block}
 use Rattle.codes.specs.declared.parity_iter.Block.TheVariants.{Ends, Empty, Identity, Permutation}
 use Rattle.tables.specs.Choice.{listed}
 use Rattle.tables.specs.Tables.{prototypes}
-use Rattle.codes.specs.Codes.{codes, all_codes, code_at, Known, known, params_of, tc_codes, TC, TM, rows, row, row_of, bits_in, checks_in, circulant_of, tables, tables_of, matrix_of, prototype_of, max_block, max_sent, max_sent_bytes, max_bits, max_bytes, max_checks, max_soft_working, max_signs}
+use Rattle.codes.specs.Codes.{codes, all_codes, code_at, Known, known, params_at, tc_codes, TC, TM, rows, row, row_of, bits_in, checks_in, circulant_of, tables, tables_of, matrix_of, prototype_of, max_block, max_sent, max_sent_bytes, max_bits, max_bytes, max_checks, max_soft_working, max_signs}
 use Rattle.codes.specs.Blocks.{byte_at, block_of, cell_blocks, row_blocks, last_rows}
 use Rattle.codes.specs.Edges.{edge_at, block_edges, blocks_of, edges}
 use Rattle.codes.specs.Sound.{BlockSize, Small, Bounded, Roomy}
@@ -157,14 +157,14 @@ module _ (code : ℕ) where
   asked_by false k e = search (rules, e)
 
   -- a code whose parameters are not refused, and one whose parameters are
-  pub asked_known : {row : CodeParams} → Ok row ≡ params_of code → Known code × (row ≡ row_of code)
+  pub asked_known : {row : CodeParams} → Ok row ≡ params_at code → Known code × (row ≡ row_of code)
   asked_known e = asked_by (known code) refl e
 
   unasked_by : (b : Bool) {why : Refusal} → Err why ≡ pick b (Ok (row_of code)) (Err UnknownCode) → (b ≡ false) × (why ≡ UnknownCode)
   unasked_by true e = search (rules, e)
   unasked_by false e = (refl, search (rules, e))
 
-  pub asked_unknown : {why : Refusal} → Err why ≡ params_of code → (known code ≡ false) × (why ≡ UnknownCode)
+  pub asked_unknown : {why : Refusal} → Err why ≡ params_at code → (known code ≡ false) × (why ≡ UnknownCode)
   asked_unknown e = unasked_by (known code) e
 
 -- ---- what a number says of the code

@@ -1,5 +1,5 @@
 -- The codes by number: their parameters, and the tables that their matrices and generators are made of. Assumes nothing.
-use Rattle.std.specs.Prelude.{Bool, List, [], ◌∷◌, ℕ, ◌+◌, ◌-◌, ◌*◌, ◌/◌, ◌≤◌, ◌<◌, ltb, get_or, Result, Ok, Err}
+use Rattle.std.specs.Prelude.{Bool, not, List, [], ◌∷◌, ℕ, ◌+◌, ◌-◌, ◌*◌, ◌/◌, ◌≤◌, ◌<◌, ltb, get_or, Result, Ok, Err}
 use Rattle.maths.specs.Tests.{pick}
 use Rattle.codes.specs.declared.Code.{Code}
 use Rattle.codes.specs.declared.Code.TheVariants.{TC128, TC256, TC512, TM1280, TM1536, TM2048, TM5120, TM6144, TM8192}
@@ -7,6 +7,7 @@ use Rattle.codes.specs.declared.refusal.Refusal.{Refusal}
 use Rattle.codes.specs.declared.refusal.Refusal.TheVariants.{UnknownCode}
 use Rattle.codes.specs.declared.CodeParams.{CodeParams}
 use Rattle.codes.specs.declared.MatrixTables.{MatrixTables}
+use Rattle.codes.specs.Answers.{test, first_of, number}
 use Rattle.tables.specs.Choice.{table_at}
 use Rattle.tables.specs.Tables.{prototypes, thetas, phis}
 use Rattle.tables.specs.Words.{generators}
@@ -89,9 +90,22 @@ rows =
 abbrev pub row_of : ℕ → CodeParams
 row_of code = get_or rows code (row 0 0 0 0 0 0)
 
--- "Parameters asked for an unknown code are 1 with zeros": refused, and the zeros are `row_of`'s
-abbrev pub params_of : ℕ → Result CodeParams Refusal
-params_of code = pick (known code) (Ok (row_of code)) (Err UnknownCode)
+abbrev pub params_at : ℕ → Result CodeParams Refusal
+params_at code = pick (known code) (Ok (row_of code)) (Err UnknownCode)
+
+-- an answer in numbers, and the parameters
+pub record ParamsAnswer : Type 0 where
+  pub answer : ℕ
+  pub row : CodeParams
+
+-- what a call says; of a refused one the parameters are those by Default
+abbrev pub params_by : Result CodeParams Refusal → ParamsAnswer
+params_by (Ok p) = record { answer = 0; row = p }
+params_by (Err why) = record { answer = number why; row = row 0 0 0 0 0 0 }
+
+-- "Parameters asked for an unknown code are 1 with zeros"
+abbrev pub params_of : ℕ → ParamsAnswer
+params_of code = record { answer = first_of (test (not (known code)) 1 ∷ []); row = row_of code }
 
 -- no code has larger blocks, more bits sent, more bits in all or more checks, or asks for longer buffers
 abbrev pub max_block : ℕ

@@ -1,5 +1,5 @@
 -- A walk over the edges of a code, held by value. It stands at an edge; where its numbers are no edge's, it is finished. Assumes nothing.
-use Rattle.std.specs.Prelude.{◌≡◌, Bool, true, false, ℕ, ◌+◌, ◌-◌, ◌*◌, ◌<◌, ltb, Option, Some, None, Result, Ok, Err}
+use Rattle.std.specs.Prelude.{◌≡◌, Bool, true, false, not, ℕ, ◌+◌, ◌-◌, ◌*◌, ◌<◌, ltb, Option, Some, None, option_map, Result, Ok, Err}
 use mathlib.Core.List.{List, [], ◌∷◌, ◌++◌, flat_map}
 use Rattle.maths.specs.Tests.{pick, both}
 use Rattle.maths.specs.Lists.{span}
@@ -11,6 +11,7 @@ use Rattle.codes.specs.declared.parity_iter.Place.{Place}
 use Rattle.codes.specs.declared.parity_iter.ParityIter.{ParityIter}
 use Rattle.codes.specs.declared.parity_iter.Block.{Block}
 use Rattle.codes.specs.declared.parity_iter.Block.TheVariants.{Ends, Empty, Identity, Permutation}
+use Rattle.codes.specs.Answers.{test, first_of, number}
 use Rattle.codes.specs.Codes.{known, Known, Matrix, matrix_of}
 use Rattle.codes.specs.Blocks.{place, block_at, blocks_from, head_of}
 use Rattle.codes.specs.Edges.{Edge, edge, column_of, edge_at, block_edges, blocks_of}
@@ -61,9 +62,22 @@ start_at code None = record { code = code; row = 4; col = 0; layer = 0; i = 0 }
 unfoldable pub new_of : ℕ → ParityIter
 new_of code = start_at code (head_of (blocks_of code))
 
--- the answer to asking for a code's walk: "its walk is 1 and finished" where the code is not known, that is, there is none
-abbrev pub begun_of : ℕ → Result ParityIter Refusal
-begun_of code = pick (known code) (Ok (new_of code)) (Err UnknownCode)
+abbrev pub walk_at : ℕ → Result ParityIter Refusal
+walk_at code = pick (known code) (Ok (new_of code)) (Err UnknownCode)
+
+-- an answer in numbers, and the walk
+pub record Begun : Type 0 where
+  pub answer : ℕ
+  pub walk : ParityIter
+
+-- what a call for a code's walk says; of a refused one the walk is the code's by `new`, a finished one
+abbrev pub begun_by : ℕ → Result ParityIter Refusal → Begun
+begun_by code (Ok w) = record { answer = 0; walk = w }
+begun_by code (Err why) = record { answer = number why; walk = start_at code None }
+
+-- the answer to asking for a code's walk: "its walk is 1 and finished" where the code is not known
+abbrev pub begun_of : ℕ → Begun
+begun_of code = record { answer = first_of (test (not (known code)) 1 ∷ []); walk = new_of code }
 
 -- the walk after the edge at which a walk stands
 unfoldable pub next_of : ParityIter → ParityIter
@@ -93,6 +107,14 @@ moved w = pick (stands w) (next_of w) w
 abbrev pub after : Option (Check × Bit) → ParityIter → List Edge
 after (Some e) w = edge e.0.0 e.1.0 ∷ remaining w
 after None w = []
+
+-- a step by value: "each step takes the walk and hands the next walk back", with the edge, or answers that it is finished
+abbrev pub handed : ParityIter → Option ((Check × Bit) × ParityIter)
+handed w = option_map (λ e. (e, moved w)) (step_of w)
+
+abbrev pub after_step : Option ((Check × Bit) × ParityIter) → List Edge
+after_step (Some s) = edge s.0.0.0 s.0.1.0 ∷ remaining s.1
+after_step None = []
 
 -- a call of `next`: what it answers, the walk that it leaves, and that the edges are those that were left
 pub record Steps (w : ParityIter) (r : Option (Check × Bit)) (w' : ParityIter) : Type 0 where

@@ -3,7 +3,7 @@
 #![tactic(auto)]
 
 ghost use Rattle.std.specs.Prelude.{◌≡◌};
-ghost use Rattle.codes.specs.Codes.{number_of, code_at, numbers, row_of, params_of, tables_of, prototype_of, phi_of};
+ghost use Rattle.codes.specs.Codes.{number_of, code_at, numbers, row_of, params_at, params_by, params_of, tables_of, prototype_of, phi_of};
 
 pub mod parity_iter;
 pub mod refusal;
@@ -314,9 +314,10 @@ pub fn phi_of(code: usize) -> [[u16; 26]; 4]
     phi_at(tables_of(code).phi)
 }
 
-// The parameters of a code by its number.
+// The parameters of a code by its number. `unwrap_or_default` makes zeros of a refusal.
 pub fn params(code: usize) -> Result<CodeParams, Refusal>
-    ensures { result ≡ params_of code }
+    ensures found { result ≡ params_at code }
+    ensures told { params_by result ≡ params_of code }
 {
     Ok(Code::try_from(code)?.params())
 }

@@ -4,10 +4,10 @@ ghost use Rattle.std.specs.Iterator.{item_count};
 ghost use Rattle.codes.specs.Codes.{made, max_block};
 ghost use Rattle.codes.specs.Blocks.{block_of, blocks, blocks_from, head_of, next_block};
 ghost use Rattle.codes.specs.Edges.{identity_column, permutation_column};
-ghost use Rattle.codes.specs.Walk.{Inside, matrix, remaining, start_at, begun_of, next_of, column_at, Steps};
+ghost use Rattle.codes.specs.Walk.{Inside, matrix, remaining, start_at, new_of, walk_at, begun_by, begun_of, next_of, column_at, handed, after_step, Steps};
 
 use crate::refusal::Refusal;
-use crate::{Code, CodeParams, params, phi_of, prototype_of};
+use crate::{CODES, Code, CodeParams, params, phi_of, prototype_of};
 use tables::compact_parity_checks::THETA_K;
 
 // The number of a check, and the number of a bit: two types, so that neither can be used as the other.
@@ -137,11 +137,11 @@ pub struct ParityIter {
 
 // The walk over a code's edges.
 pub fn iter_paritychecks(code: usize) -> Result<ParityIter, Refusal>
-    ensures { result ≡ begun_of code }
+    ensures found { result ≡ walk_at code }
+    ensures told { begun_by code result ≡ begun_of code }
 {
     Code::try_from(code)?;
-    let h = prototype_of(code);
-    Ok(start_at(code, first_block(&h)))
+    Ok(ParityIter::new(code))
 }
 
 // The walk at a block's first row, or the finished walk.
@@ -163,6 +163,26 @@ fn start_at(code: usize, found: Option<Place>) -> ParityIter
 }
 
 impl ParityIter {
+    // The walk over a code's edges, a finished one where the code is not known.
+    pub fn new(code: usize) -> ParityIter
+        ensures { result ≡ new_of code }
+    {
+        if code >= CODES {
+            return start_at(code, None);
+        }
+        let h = prototype_of(code);
+        start_at(code, first_block(&h))
+    }
+
+    // One step: the edge at which it stands and the walk after it, or none where it is finished.
+    pub fn step(self) -> Option<((Check, Bit), ParityIter)>
+        ensures { (result ≡ handed self) × (after_step result ≡ remaining self) }
+    {
+        let mut walk = self;
+        let edge = walk.next()?;
+        Some((edge, walk))
+    }
+
     // The walk after this edge, in blocks of the size m.
     fn moved(self, m: usize) -> ParityIter
         requires { Inside self × (m ≡ (matrix self).size) }

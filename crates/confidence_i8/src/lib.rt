@@ -11,6 +11,7 @@ ghost use Rattle.min_sum.specs.Working.{mark_of};
 use min_sum::marks::mark;
 
 pub mod llrs;
+pub mod parts;
 
 // The largest number.
 pub const TOP: i8 = i8::MAX;

@@ -1,7 +1,8 @@
 -- From the tests of a call to what it leaves. Assumes nothing.
-use Rattle.std.proofs.Common.{sym, ◌≡◌, ℕ, ◌/◌, ◌≤◌, ◌<◌, List, ◌++◌, length, get_or, take, drop, Ok, ap, ◌∙◌, arith}
+use Rattle.std.proofs.Common.{length-append, ◌≡◌, ℕ, ◌/◌, ◌≤◌, ◌<◌, List, ◌++◌, length, get_or, take, drop, Ok, ap, ◌∙◌, arith}
 use borrow.Author.Tests.{ltb-true, lt-ltb, eq-eqb}
-use lib.Seq.{take_at, length-take-le}
+use lib.ListN.{length-drop}
+use lib.Seq.{take_at}
 use Rattle.maths.proofs.Tests.{below_eq}
 use Rattle.codes.specs.declared.CodeParams.{CodeParams}
 use Rattle.codes.specs.declared.Code.{Code}
@@ -40,9 +41,10 @@ module _ (code : Code) (m s : List ℕ) {row : CodeParams} (row_is : row ≡ row
   pub copy_fits : length m ≤ length s
   copy_fits = omega (arith, (roomy (number_of code) (number_known code)).k_low, ap (λ (r : CodeParams). r.k) row_is, ap (λ (r : CodeParams). r.n) row_is)
 
-  pub copy_done : (n : ℕ) → Ok code ≡ code_at n → (f copied : List ℕ) → copied ≡ m → f ≡ encoded_bytes (number_of code) (take ((row_of (number_of code)).k / 8) (copied ++ drop (length m) s))
+  pub copy_done : (n : ℕ) → Ok code ≡ code_at n → (f : List ℕ) {copied : List ℕ} → copied ≡ m ++ drop (length m) s
+      → f ≡ encoded_bytes (number_of code) (take ((row_of (number_of code)).k / 8) copied)
       → encoded 0 f ≡ copy_encode_outcome n m s
-  copy_done n found f copied same is =
+  copy_done n found f same is =
       let front : take ((row_of (number_of code)).k / 8) (m ++ drop (length m) s) ≡ m = take_at m (drop (length m) s) _ (rw row_is at read) in
       rw (← number_is n found, is, same, front, copy_frame (number_of code) m s (number_known code) (rw row_is at read) (rw row_is at written))
 
@@ -51,10 +53,8 @@ module _ (code : Code) (m s : List ℕ) {row : CodeParams} {a b : ⊤} (row_is :
   pub copy_low : length m ≤ length s
   copy_low = copy_fits code m s row_is (passed_length _ _ (passes _ _ first)) (passed_length _ _ (passes _ _ second))
 
-  pub copy_long : length (take (length m) s) ≡ length m
-  copy_long = length-take-le (length m) s copy_low
+  -- what is copied leaves the codeword as long as it was
+  pub copied_long : {copied : List ℕ} → copied ≡ m ++ drop (length m) s → length copied ≡ length s
+  copied_long e = rw e (omega (arith, copy_low, length-append m (drop (length m) s), length-drop (length m) s))
 
-  pub copy_long' : length m ≡ length (take (length m) s)
-  copy_long' = sym copy_long
-
-pub ruleset copying = (copy_low, copy_long, copy_long')
+pub ruleset copying = (copy_low, copied_long)

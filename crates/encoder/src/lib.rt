@@ -2,7 +2,7 @@
 
 #![tactic(auto)]
 
-ghost use Rattle.std.specs.Prelude.{◌≡◌, ◌/◌, length, take};
+ghost use Rattle.std.specs.Prelude.{◌≡◌, ◌/◌, ◌≤◌, ◌++◌, length, take, drop};
 ghost use Rattle.codes.specs.Answers.{answer_of};
 ghost use Rattle.codes.specs.Codes.{number_of, row_of};
 ghost use Rattle.codes.specs.Frames.{encoded_bytes};
@@ -48,6 +48,16 @@ pub fn encode(code: usize, codeword: &mut [u8]) -> Result<(), Refusal>
     Ok(())
 }
 
+// Copies the data to the front of the codeword. (By an index: `copy_from_slice` calls memmove, which who links the library may not have.)
+fn copy_in(data: &[u8], codeword: &mut [u8])
+    requires { length «data».now ≤ length codeword.old }
+    ensures { codeword.new ≡ «data».now ++ drop (length «data».now) codeword.old }
+{
+    for i in 0..data.len() {
+        codeword[i] = data[i];
+    }
+}
+
 // Encodes data that stands elsewhere: it is copied first.
 #[tactic(auto, using(crate::proofs::Answered::copying))]
 pub fn copy_encode(code: usize, data: &[u8], codeword: &mut [u8]) -> Result<(), Refusal>
@@ -57,7 +67,7 @@ pub fn copy_encode(code: usize, data: &[u8], codeword: &mut [u8]) -> Result<(), 
     let row = code.params();
     check_length(data.len(), row.k / 8, Refusal::WrongRead)?;
     check_length(codeword.len(), row.n / 8, Refusal::WrongWritten)?;
-    codeword[..data.len()].copy_from_slice(data);
+    copy_in(data, codeword);
     encode_known(code, codeword);
     Ok(())
 }

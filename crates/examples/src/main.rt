@@ -71,18 +71,6 @@ fn flips(rt: &impl Print, frame: &[u8]) -> io::Result<()> {
     flip(rt, 9, &[0u8; 15], 15, 127)
 }
 
-fn soft_told(
-    code: usize,
-    input: &[u8],
-    output: &mut [u8],
-    working: &mut [i8],
-    signs: &mut [u8],
-) -> Result<Ended, Refusal> {
-    let mut llrs = [0i8; 128];
-    confidence_i8::llrs::hard_to_llrs_i8(0, input, &mut llrs)?;
-    min_sum_i8::decode_ms_i8(code, &llrs, output, working, signs, 20)
-}
-
 fn soft(
     rt: &impl Print,
     code: usize,
@@ -98,7 +86,11 @@ fn soft(
     let mut bytes = [0xffu8; 17];
     let output = &mut bytes[..output];
     let working = &mut [0i8; 1280][..working];
-    let told = soft_told(code, input, output, working, &mut [0u8; 9][..signs]);
+    let mut llrs = [0i8; 128];
+    // accepted: the lengths are the code's
+    let _ = confidence_i8::llrs::hard_to_llrs_i8(0, input, &mut llrs);
+    let signs = &mut [0u8; 9][..signs];
+    let told = min_sum_i8::decode_ms_i8(code, &llrs, output, working, signs, 20);
     show(rt, told, output)
 }
 

@@ -13,6 +13,8 @@ pub mod Bytes
 pub mod Distance
 pub mod Triangle
 pub mod Budget
+pub mod Parts
 pub mod Tested
 pub mod Stores
 pub mod Blocks
+pub mod Copying

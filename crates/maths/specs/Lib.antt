@@ -8,3 +8,4 @@ pub mod Bits
 pub mod Bytes
 pub mod Distance
 pub mod Budget
+pub mod Parts

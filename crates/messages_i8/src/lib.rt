@@ -11,6 +11,10 @@ ghost use Rattle.min_sum.specs.MinSum.{Link};
 ghost use Rattle.min_sum.specs.Layouts.{Inside};
 ghost use Rattle.min_sum.specs.Working.{Alike, layout, link_at, run_links, over_edges, held, turn_in, exchange, exchanged, add_at, take_at};
 
+mod anywhere;
+
+pub use anywhere::exchange;
+use confidence_i8::parts::copy;
 use confidence_i8::{TOP, add, new_first, new_mark, new_second, new_u, new_v};
 use min_sum::layout::Layout;
 use min_sum::marks::{all_even, negative};
@@ -55,8 +59,8 @@ trait Step {
 
     // At edge i of a run whose first has the number e.
     fn at(m: &mut Messages<'_>, e: usize, run: EdgeRun, i: usize)
-        requires { Inside (layout m.old) (e + i) (run.check + i) (run.bit + i) 1 }
-        ensures { m.new ≡ after (link_at e run.check run.bit i) m.old };
+        requires { Inside (layout m.old) (e + i) (run.check.0 + i) (run.bit.0 + i) 1 }
+        ensures { m.new ≡ after (link_at e run.check.0 run.bit.0 i) m.old };
 }
 
 // The edge's new u, and its bit's marginal with u added.
@@ -79,8 +83,8 @@ impl Step for Add {
             marks,
             ..
         } = m;
-        let a = usize::from(run.check) + i;
-        let bit = usize::from(run.bit) + i;
+        let a = usize::from(run.check.0) + i;
+        let bit = usize::from(run.bit.0) + i;
         let marginal = marginals[bit];
         let new = new_u(v[e + i], first[a], second[a], negative(marks[a]));
         u[e + i] = new;
@@ -108,8 +112,8 @@ impl Step for Take {
             marks,
             ..
         } = m;
-        let a = usize::from(run.check) + i;
-        let marginal = marginals[usize::from(run.bit) + i];
+        let a = usize::from(run.check.0) + i;
+        let marginal = marginals[usize::from(run.bit.0) + i];
         let least = first[a];
         let next = second[a];
         let mark = marks[a];
@@ -127,14 +131,15 @@ fn restart(marginals: &mut [i8], llrs: &[i8])
     ensures { marginals.new ≡ llrs.now ++ replicate (length marginals.old - length llrs.now) (pos 0) }
 {
     let (sent, punctured) = marginals.split_at_mut(llrs.len());
-    sent.copy_from_slice(llrs);
+    copy(sent, 0, llrs);
     punctured.fill(0);
 }
 
 impl<'a> Messages<'a> {
     ghost use Rattle.min_sum.specs.Working.{all_even, restart_parts, renew_parts, lent_as};
 
-    // The messages in a buffer, part after part, where there is room for the layout and the runs are its edges.
+    // The messages in a buffer, part after part, where there is room for the layout and the runs are its edges. Of the layout it takes how many
+    // elements the parts have, not where they begin: they follow one another, as in layout_of's.
     pub fn new(
         working: &'a mut [i8],
         marks: &'a mut [u8],
@@ -176,8 +181,8 @@ impl<'a> Messages<'a> {
 
     // A run of edges: (check + i, bit + i), numbered e + i.
     fn over_run<S: Step>(&mut self, e: usize, run: EdgeRun)
-        requires { Inside (layout self.old) e run.check run.bit run.size }
-        ensures { self.new ≡ fold S.after (run_links e run.check run.bit run.size) self.old }
+        requires { Inside (layout self.old) e run.check.0 run.bit.0 run.size }
+        ensures { self.new ≡ fold S.after (run_links e run.check.0 run.bit.0 run.size) self.old }
     {
         // By an index: a step reads and writes six slices at three offsets.
         for i in 0..usize::from(run.size) {

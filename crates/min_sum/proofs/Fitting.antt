@@ -15,7 +15,7 @@ use Rattle.maths.proofs.Tests.{both_first, both_second, T_true, true_T}
 use Rattle.runs.specs.declared.EdgeRun.{EdgeRun}
 use Rattle.runs.specs.Runs.{run_edges, within, room}
 use Rattle.min_sum.specs.declared.layout.Layout.{Layout}
-use Rattle.min_sum.specs.Layouts.{make_up, lies_in, ready_for, Rest, Ready}
+use Rattle.min_sum.specs.Layouts.{laid_out, make_up, lies_in, ready_for, Rest, Ready}
 use Rattle.min_sum.proofs.Links.{runs_length}
 
 -- std's words for what make_up says
@@ -49,6 +49,10 @@ makes_ready l rs llrs few e =
       runs = record { all_edges = zero-add _ ∙ eqb-true (length (flat_map run_edges rs)) l.edges (both_second in_it whole rest); inside = true_T in_it (both_first in_it whole rest) };
       few = few;
     }
+
+-- what a pass asks is asked of how many edges, bits and checks there are, wherever the parts begin
+pub ready_laid : (l : Layout) (rs : List EdgeRun) (llrs : ℕ) → Ready l rs llrs → Ready (laid_out l.edges l.bits l.checks) rs llrs
+ready_laid l rs llrs r = record { short = r.short; runs = record { all_edges = r.runs.all_edges; inside = r.runs.inside }; few = r.few }
 
 -- ---- a buffer has room for a layout, and the runs are its edges
 module _ (l : Layout) (n m llrs : ℕ) (rs : List EdgeRun) where

@@ -13,3 +13,5 @@ pub mod Success
 pub mod Loops
 pub mod HardBits
 pub mod Fitting
+pub mod Anywhere
+pub mod Stored

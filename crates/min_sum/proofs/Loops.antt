@@ -83,20 +83,20 @@ module _ {C : Type 0} {step : Link → Parts C → Parts C} where
       is_there : get_or rs i d ≡ get_or p₀.runs i (get_or rs i d)
       is_there = get_or_default rs i d (get_or rs i d) k ∙ ap (λ (xs : List EdgeRun). get_or xs i (get_or rs i d)) er
 
-      pub pass_inside : Inside (layout p) e (get_or rs i d).check (get_or rs i d).bit (get_or rs i d).size
+      pub pass_inside : Inside (layout p) e (get_or rs i d).check.0 (get_or rs i d).bit.0 (get_or rs i d).size
       pass_inside =
           let z = q.alike in
           let h = turn_inside (layout p₀) p₀.runs i e q.rest low_there is_there in
           record { numbers = omega (arith, h.numbers, z.u); checks = omega (arith, h.checks, z.marks); bits = omega (arith, h.bits, z.marginals) }
 
       pub pass_again : {p' : Parts C} {n : ℕ} → Keeps step → n ≡ (get_or rs i d).size → n < 65536
-          → p' ≡ fold step (run_links e (get_or rs i d).check (get_or rs i d).bit (get_or rs i d).size) p → Passing step (e + n) (i + 1) p₀ p'
+          → p' ≡ fold step (run_links e (get_or rs i d).check.0 (get_or rs i d).bit.0 (get_or rs i d).size) p → Passing step (e + n) (i + 1) p₀ p'
       pass_again {p'} keeps en small f =
           let r = get_or rs i d in
           record {
             low = omega (arith, low_there);
             edges_low = omega (arith, q.edges_low);
-            alike = alike_trans q.alike (rw f (fold_alike keeps (run_links e r.check r.bit r.size) p));
+            alike = alike_trans q.alike (rw f (fold_alike keeps (run_links e r.check.0 r.bit.0 r.size) p));
             rest = rw en (turn_rest (layout p₀) p₀.runs i e q.rest low_there is_there);
             folded = rw en (turn_fold (layout p₀) p₀.runs i e q.rest low_there is_there step p q.folded f);
           }

@@ -7,8 +7,10 @@ use Rattle.runs.specs.Runs.{run_edges, within, room}
 use Rattle.runs.specs.declared.EdgeRun.{EdgeRun}
 use Rattle.min_sum.specs.declared.layout.Layout.{Layout}
 
+-- the layout of a code's working buffer: each part after the one before it
 abbrev pub laid_out : ℕ → ℕ → ℕ → Layout
-laid_out edges bits checks = record { edges = edges; bits = bits; checks = checks }
+laid_out edges bits checks =
+    record { edges = edges; bits = bits; checks = checks; marginals = 2 * edges; first = 2 * edges + bits; second = 2 * edges + bits + checks }
 
 abbrev pub layout_of : ℕ → Layout
 layout_of code = laid_out (row_of code).paritycheck_sum (bits_in code) (checks_in code)

@@ -5,3 +5,4 @@ pub mod Hard
 pub mod Outcomes
 pub mod Layouts
 pub mod Working
+pub mod Anywhere

@@ -28,13 +28,14 @@ fn run_case(
         return false;
     }
     // A match, and no table of functions: each operation takes other buffers.
-    match c.op {
-        Operation::Encoders => encoders(c, read, want, output),
-        Operation::BitFlipping => bit_flipping(c, row, read, want, output),
-        Operation::MinSum => min_sum_i8(c, row, read, want, output),
-        Operation::HardToLlrs => to_llrs(c, read, want),
-        Operation::LlrsToHard => to_hard(c, read, want, output),
-        Operation::Sheet => answers(read, want),
+    match Operation::try_from(c.op) {
+        Ok(Operation::Encoders) => encoders(c, read, want, output),
+        Ok(Operation::BitFlipping) => bit_flipping(c, row, read, want, output),
+        Ok(Operation::MinSum) => min_sum_i8(c, row, read, want, output),
+        Ok(Operation::HardToLlrs) => to_llrs(c, read, want),
+        Ok(Operation::LlrsToHard) => to_hard(c, read, want, output),
+        Ok(Operation::Sheet) => answers(read, want),
+        Err(_) => false,
     }
 }
 

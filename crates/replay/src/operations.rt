@@ -12,6 +12,7 @@ ghost use Rattle.replay.specs.Agreement.{EncodeCompared, Converted, Compared, Fl
 use cases::soft::{same_soft, soften};
 use cases::{Case, reported};
 use codes::{CodeParams, MAX_BITS, MAX_SENT, MAX_SIGNS, MAX_SOFT_WORKING};
+use report::Report;
 
 // Both encoders: the data copied in, then the frame encoded once more in place.
 pub(crate) fn encoders(c: Case, data: &[u8], want: &[u8], word: &mut [u8]) -> bool
@@ -27,7 +28,7 @@ fn bit_flipping_on(c: Case, read: &[u8], want: &[u8], output: &mut [u8], working
     ensures { FlipCompared c want.now (bit_flipping c read.now output.old working.old) result output.new working.new }
 {
     let r = bit_flip::decode_bf(c.code, read, output, working, c.limit);
-    reported(r, c) && *output == *want
+    reported(Report::from(r), c) && *output == *want
 }
 
 pub(crate) fn bit_flipping(
@@ -57,7 +58,7 @@ fn min_sum_on(
 {
     soften(read, llrs);
     let r = min_sum_i8::decode_ms_i8(c.code, llrs, output, working, signs, c.limit);
-    reported(r, c) && *output == *want
+    reported(Report::from(r), c) && *output == *want
 }
 
 pub(crate) fn min_sum_i8(

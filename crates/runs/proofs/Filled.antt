@@ -8,7 +8,7 @@ use Rattle.tables.specs.Tables.{prototypes, thetas, phis}
 use Rattle.std.specs.Prelude.{Ok, Err}
 use Rattle.codes.specs.declared.CodeParams.{CodeParams}
 use Rattle.codes.specs.declared.refusal.Refusal.{Refusal}
-use Rattle.codes.specs.Codes.{codes, Known, rows, tables, params_of, made, matrix_of, prototype_of, phi_of}
+use Rattle.codes.specs.Codes.{codes, Known, rows, tables, params_at, made, matrix_of, prototype_of, phi_of}
 use Rattle.codes.specs.Blocks.{block_of, cell_blocks, row_blocks, last_rows, blocks}
 use Rattle.codes.specs.Edges.{blocks_of}
 use Rattle.runs.specs.Runs.{turned_runs, quarter, quarters, block_runs, runs, room}
@@ -40,10 +40,10 @@ fills code h =
     }
 
 module _ (code : ℕ) where
-  pub runs_none : {why : Refusal} → Err why ≡ params_of code → [] ≡ runs code
+  pub runs_none : {why : Refusal} → Err why ≡ params_at code → [] ≡ runs code
   runs_none e = rw (runs_unknown code (ltb-false code codes (asked_unknown code e).0))
 
-  module _ {row : CodeParams} (e : Ok row ≡ params_of code) (phi : List (List ℕ)) (H : List (List (List ℕ))) (ef : phi ≡ phi_of code) (eh : H ≡ prototype_of code) where
+  module _ {row : CodeParams} (e : Ok row ≡ params_at code) (phi : List (List ℕ)) (H : List (List (List ℕ))) (ef : phi ≡ phi_of code) (eh : H ≡ prototype_of code) where
     pub runs_fitting : RunsFit (made row.submatrix_size thetas phi H)
     runs_fitting = let k = asked_known code e in rw (ef, eh, k.1) (fills code k.0)
 

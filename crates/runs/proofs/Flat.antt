@@ -150,9 +150,9 @@ runs_within = below_at codes (λ code. all (within (checks_in code) (bits_in cod
 pub run_ranged : (m n : ℕ) (r : EdgeRun) → T (within m n r) → T (all (in_range m n) (run_edges r))
 unfolding run_edges
 run_ranged m n r t =
-    let a = leb→le (r.check + r.size) m (both_left (leb (r.check + r.size) m) (leb (r.bit + r.size) n) t) in
-    let b = leb→le (r.bit + r.size) n (both_right (leb (r.check + r.size) m) (leb (r.bit + r.size) n) t) in
-    all_span (in_range m n) _ 0 r.size (λ k l. both_make (ltb (r.check + (0 + k)) m) (ltb (r.bit + (0 + k)) n) (lt→ltb _ m (omega arith)) (lt→ltb _ n (omega arith)))
+    let a = leb→le (r.check.0 + r.size) m (both_left (leb (r.check.0 + r.size) m) (leb (r.bit.0 + r.size) n) t) in
+    let b = leb→le (r.bit.0 + r.size) n (both_right (leb (r.check.0 + r.size) m) (leb (r.bit.0 + r.size) n) t) in
+    all_span (in_range m n) _ 0 r.size (λ k l. both_make (ltb (r.check.0 + (0 + k)) m) (ltb (r.bit.0 + (0 + k)) n) (lt→ltb _ m (omega arith)) (lt→ltb _ n (omega arith)))
 
 -- "every index is in range"
 pub edges_ranged : (code : ℕ) → Known code → T (all (in_range (checks_in code) (bits_in code)) (edges code))

@@ -1,3 +1,4 @@
+pub mod Padded
 pub mod Counts
 pub mod Filling
 pub mod Filled

@@ -79,22 +79,20 @@ both_turned false true = refl
 both_turned false false = refl
 
 lane_turned : (f : ℕ → ℕ → ℕ) (g : ℕ → ℕ) (r : EdgeRun) (s n : ℕ) (l : List ℕ)
-    → fold (put check_of bit_of f g) (span (λ i. edge (r.bit + i) (r.check + i)) s n) l ≡ fold (put bit_of check_of f g) (span (λ i. edge (r.check + i) (r.bit + i)) s n) l
+    → fold (put check_of bit_of f g) (span (λ i. edge (r.bit.0 + i) (r.check.0 + i)) s n) l ≡ fold (put bit_of check_of f g) (span (λ i. edge (r.check.0 + i) (r.bit.0 + i)) s n) l
 unfolding fold span put
 lane_turned f g r s zero l = refl
-lane_turned f g r s (suc n) l = lane_turned f g r (suc s) n (set l (r.bit + s) (f (get_or l (r.bit + s) 0) (g (r.check + s))))
+lane_turned f g r s (suc n) l = lane_turned f g r (suc s) n (set l (r.bit.0 + s) (f (get_or l (r.bit.0 + s) 0) (g (r.check.0 + s))))
 
 run_turned : (f : ℕ → ℕ → ℕ) (g : ℕ → ℕ) (m n : ℕ) (r : EdgeRun) (l : List ℕ)
     → over_run n m (put check_of bit_of f g) (turned r) l ≡ over_run m n (put bit_of check_of f g) r l
 unfolding over_run run_edges
 run_turned f g m n r l =
-    rw (both_turned (leb (r.bit + r.size) n) (leb (r.check + r.size) m), lane_turned f g r 0 r.size l)
+    rw (both_turned (leb (r.bit.0 + r.size) n) (leb (r.check.0 + r.size) m), lane_turned f g r 0 r.size l)
 
-pub sweep_turned : (f : ℕ → ℕ → ℕ) (g : ℕ → ℕ) {m n k i : ℕ} {rs : List EdgeRun} {l₀ : List ℕ} (r : EdgeRun) (l l' : List ℕ) → l' ≡ over_run k m (put check_of bit_of f g) r l
-    → r ≡ turned (get_or rs i (run 0 0 0)) → Sweeping (put bit_of check_of f g) m n rs i l₀ l → i < length rs → k ≡ n → length l' ≡ length l
+pub sweep_turned : (f : ℕ → ℕ → ℕ) (g : ℕ → ℕ) {m n k i : ℕ} {rs : List EdgeRun} {l₀ : List ℕ} (r : EdgeRun) (l l' : List ℕ) → l' ≡ over_run k m (put check_of bit_of f g) (turned r) l
+    → r ≡ get_or rs i (run 0 0 0) → Sweeping (put bit_of check_of f g) m n rs i l₀ l → i < length rs → k ≡ n → length l' ≡ length l
     → Sweeping (put bit_of check_of f g) m n rs (i + 1) l₀ l'
-sweep_turned f g {m} {n} {k} {i} {rs} r l l' es er p h ek el =
-    let q = get_or rs i (run 0 0 0) in
-    sweep_again q m k i l l' (rw er at es ∙ run_turned f g m k q l) p h refl refl ek el
+sweep_turned f g {m} {n} {k} {i} {rs} r l l' es er p h ek el = sweep_again r m k i l l' (es ∙ run_turned f g m k r l) p h er refl ek el
 
 pub ruleset sweeps = (run_passed, run_begins, run_again, run_ends, sweep_begins, sweep_again, sweep_turned, sweep_ends, rules)

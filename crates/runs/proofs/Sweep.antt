@@ -10,10 +10,10 @@ use Rattle.runs.specs.declared.EdgeRun.{EdgeRun}
 use Rattle.runs.specs.Runs.{run_edges, within, laid}
 use Rattle.runs.specs.Steps.{over_run}
 
-pub within_low : (m n : ℕ) (r : EdgeRun) → within m n r ≡ true → (r.check + r.size ≤ m) × (r.bit + r.size ≤ n)
+pub within_low : (m n : ℕ) (r : EdgeRun) → within m n r ≡ true → (r.check.0 + r.size ≤ m) × (r.bit.0 + r.size ≤ n)
 within_low m n r e = (
-  leb-true (r.check + r.size) m (both_first (leb (r.check + r.size) m) (leb (r.bit + r.size) n) e),
-  leb-true (r.bit + r.size) n (both_second (leb (r.check + r.size) m) (leb (r.bit + r.size) n) e),
+  leb-true (r.check.0 + r.size) m (both_first (leb (r.check.0 + r.size) m) (leb (r.bit.0 + r.size) n) e),
+  leb-true (r.bit.0 + r.size) n (both_second (leb (r.check.0 + r.size) m) (leb (r.bit.0 + r.size) n) e),
 )
 
 -- ---- a fold over the runs that lie within is one over their edges

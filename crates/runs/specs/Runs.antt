@@ -14,19 +14,19 @@ use Rattle.codes.specs.Edges.{Edge, edge, blocks_of}
 
 -- a run from check a and bit v on, of l edges
 abbrev pub run : ℕ → ℕ → ℕ → EdgeRun
-run a v l = record { check = a; bit = v; size = l }
+run a v l = record { check = record { 0 = a }; bit = record { 0 = v }; size = l }
 
 -- the edges (check + i, bit + i), of which there are size
 unfoldable pub run_edges : EdgeRun → List Edge
-run_edges r = span (λ i. edge (r.check + i) (r.bit + i)) 0 r.size
+run_edges r = span (λ i. edge (r.check.0 + i) (r.bit.0 + i)) 0 r.size
 
 -- the run lies within m checks and n bits
 abbrev pub within : ℕ → ℕ → EdgeRun → Bool
-within m n r = both (nat_le (r.check + r.size) m) (nat_le (r.bit + r.size) n)
+within m n r = both (nat_le (r.check.0 + r.size) m) (nat_le (r.bit.0 + r.size) n)
 
 -- its bits in the place of its checks, and its checks in that of its bits
 abbrev pub turned : EdgeRun → EdgeRun
-turned r = run r.bit r.check r.size
+turned r = run r.bit.0 r.check.0 r.size
 
 -- size edges from check a on, whose bits are v, .., v + size - 1 turned by turn
 unfoldable pub turned_runs : ℕ → ℕ → ℕ → ℕ → List EdgeRun

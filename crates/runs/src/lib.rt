@@ -2,10 +2,10 @@
 
 #![tactic(auto)]
 
-ghost use Rattle.std.specs.Prelude.{◌≡◌};
-ghost use Rattle.runs.specs.Runs.{runs};
+ghost use Rattle.std.specs.Prelude.{◌≡◌, slice_index_or};
+ghost use Rattle.runs.specs.Runs.{run, within, runs};
 
-use codes::parity_iter::{Block, Place, first_block, next_block};
+use codes::parity_iter::{Bit, Block, Check, Place, first_block, next_block};
 use codes::{params, phi_of, prototype_of};
 use std::marker::Model;
 use tables::compact_parity_checks::THETA_K;
@@ -16,36 +16,33 @@ pub mod steps;
 // No code has more runs.
 pub const MAX_RUNS: usize = 264;
 
+// The first check of a run, and its first bit: two types, so that neither is taken for the other.
+#[derive(Clone, Copy, Debug, Default, PartialEq, Eq)]
+pub struct FirstCheck(pub u16);
+
+#[derive(Clone, Copy, Debug, Default, PartialEq, Eq)]
+pub struct FirstBit(pub u16);
+
 // One run: its first check, its first bit, and how many edges (check + i, bit + i) it has. Runs are read over and over, and this is a quarter
 // of what three usize take.
 #[derive(Clone, Copy, Debug, Default, PartialEq, Eq)]
 pub struct EdgeRun {
-    pub check: u16,
-    pub bit: u16,
+    pub check: FirstCheck,
+    pub bit: FirstBit,
     pub size: u16,
 }
 
 impl EdgeRun {
     ghost use Rattle.std.specs.Prelude.{◌≡◌};
-    ghost use Rattle.runs.specs.Runs.{within, turned};
+    ghost use Rattle.runs.specs.Runs.{within};
 
     // Whether the run lies within so many checks and bits.
     pub fn lies_within(self, checks: usize, bits: usize) -> bool
         ensures { result ≡ within checks bits self }
     {
-        usize::from(self.check) + usize::from(self.size) <= checks
-            && usize::from(self.bit) + usize::from(self.size) <= bits
-    }
-
-    // Its bits in the place of its checks, and its checks in that of its bits.
-    fn turned(self) -> EdgeRun
-        ensures { result ≡ turned self }
-    {
-        EdgeRun {
-            check: self.bit,
-            bit: self.check,
-            size: self.size,
-        }
+        let check = Check(usize::from(self.check.0));
+        let bit = Bit(usize::from(self.bit.0));
+        lies_within(check, bit, usize::from(self.size), checks, bits)
     }
 }
 
@@ -58,23 +55,27 @@ struct Matrix<'a> {
     prototype: &'a [[[u8; 11]; 4]; 3],
 }
 
-// A list of runs, in fixed memory: no code needs a heap.
-#[derive(Drop)]
+// A list of runs, in fixed memory: no code needs a heap. Behind it are runs of no edges.
+#[derive(Clone, Copy)]
 pub struct Runs {
     count: usize,
     list: [EdgeRun; MAX_RUNS],
 }
 
 impl Model for Runs {
-    ghost use Rattle.std.specs.Prelude.{List, take, ◌≤◌};
+    ghost use Rattle.std.specs.Prelude.{List, take, ◌++◌, length};
     ghost use Rattle.runs.specs.declared.EdgeRun.{EdgeRun};
-    ghost use Rattle.runs.specs.Runs.{room};
+    ghost use Rattle.runs.specs.Padded.{spare, Padded, padded_count, padded_list};
 
     ghost Value = { List EdgeRun };
 
     ghost view = { λ r. take r.count r.list };
 
-    ghost invariant = { λ r. r.count ≤ room };
+    ghost invariant = { λ r. Padded r.count r.list };
+
+    ghost inverse = { λ v. record { count = length v; list = v ++ spare (length v) } };
+
+    ghost inverse_ok = { λ r h i. record { count = padded_count r.count r.list h i; list = padded_list r.count r.list h i } };
 }
 
 impl Runs {
@@ -110,8 +111,8 @@ impl Runs {
 
     // The edges of a turned identity: one run, or two.
     fn push_turned(&mut self, run: EdgeRun, turn: u16)
-        requires { TurnFits (length self.old) run.check run.bit turn run.size }
-        ensures { self.new ≡ self.old ++ turned_runs run.check run.bit turn run.size }
+        requires { TurnFits (length self.old) run.check.0 run.bit.0 turn run.size }
+        ensures { self.new ≡ self.old ++ turned_runs run.check.0 run.bit.0 turn run.size }
     {
         if turn == 0 {
             self.push(run);
@@ -120,11 +121,11 @@ impl Runs {
         let left = run.size - turn;
         self.push(EdgeRun {
             check: run.check,
-            bit: run.bit + turn,
+            bit: FirstBit(run.bit.0 + turn),
             size: left,
         });
         self.push(EdgeRun {
-            check: run.check + left,
+            check: FirstCheck(run.check.0 + left),
             bit: run.bit,
             size: turn,
         });
@@ -133,22 +134,22 @@ impl Runs {
     // A quarter of a permutation, a turned identity. The block is given as the run of all its rows. (A cast of what is proved to fit, here and
     // below: try_from would test it again.)
     fn push_quarter(&mut self, matrix: &Matrix, block: EdgeRun, value: usize, j: usize)
-        requires { QuarterFits (length self.old) block.check block.bit block.size value j }
-        ensures { self.new ≡ self.old ++ quarter block.size matrix.now.theta.now matrix.now.phi.now value block.check block.bit j }
+        requires { QuarterFits (length self.old) block.check.0 block.bit.0 block.size value j }
+        ensures { self.new ≡ self.old ++ quarter block.size matrix.now.theta.now matrix.now.phi.now value block.check.0 block.bit.0 j }
     {
         let q = block.size / 4;
         let turn = (usize::from(matrix.theta[value]) + j) % 4;
         let run = EdgeRun {
-            check: block.check + j as u16 * q,
-            bit: block.bit + turn as u16 * q,
+            check: FirstCheck(block.check.0 + j as u16 * q),
+            bit: FirstBit(block.bit.0 + turn as u16 * q),
             size: q,
         };
         self.push_turned(run, matrix.phi[j][value] % q);
     }
 
     fn push_quarters(&mut self, matrix: &Matrix, block: EdgeRun, value: usize)
-        requires { BlockFits (length self.old) block.check block.bit block.size (Permutation value) }
-        ensures { self.new ≡ self.old ++ quarters block.size matrix.now.theta.now matrix.now.phi.now value block.check block.bit 4 }
+        requires { BlockFits (length self.old) block.check.0 block.bit.0 block.size (Permutation value) }
+        ensures { self.new ≡ self.old ++ quarters block.size matrix.now.theta.now matrix.now.phi.now value block.check.0 block.bit.0 4 }
     {
         // By number: a quarter's is added to theta's, and picks a row of phi.
         for j in 0..4 {
@@ -157,8 +158,8 @@ impl Runs {
     }
 
     fn push_block(&mut self, matrix: &Matrix, block: EdgeRun, kind: Block)
-        requires { BlockFits (length self.old) block.check block.bit block.size kind }
-        ensures { self.new ≡ self.old ++ runs_at block.size matrix.now.theta.now matrix.now.phi.now kind block.check block.bit }
+        requires { BlockFits (length self.old) block.check.0 block.bit.0 block.size kind }
+        ensures { self.new ≡ self.old ++ runs_at block.size matrix.now.theta.now matrix.now.phi.now kind block.check.0 block.bit.0 }
     {
         match kind {
             Block::Ends => {}
@@ -174,8 +175,8 @@ impl Runs {
     {
         let m = matrix.size;
         let block = EdgeRun {
-            check: (p.row * m) as u16,
-            bit: (p.col * m) as u16,
+            check: FirstCheck((p.row * m) as u16),
+            bit: FirstBit((p.col * m) as u16),
             size: m as u16,
         };
         let kind = Block::from(matrix.prototype[p.layer][p.row][p.col]);
@@ -210,4 +211,19 @@ pub fn runs_of(code: usize) -> Runs
         runs.fill(&matrix);
     }
     runs
+}
+
+// Run number i of a list; one without edges where there is none.
+pub fn run_at(runs: &[EdgeRun], i: usize) -> EdgeRun
+    ensures { result ≡ slice_index_or runs.now i (run 0 0 0) }
+{
+    runs.get(i).copied().unwrap_or_default()
+}
+
+// Whether a run lies within so many checks and bits; one whose end wraps doesn't.
+pub fn lies_within(check: Check, bit: Bit, size: usize, checks: usize, bits: usize) -> bool
+    ensures { result ≡ within checks bits (run check.0 bit.0 size) }
+{
+    check.0.checked_add(size).is_some_and(|end| end <= checks)
+        && bit.0.checked_add(size).is_some_and(|end| end <= bits)
 }

@@ -1,7 +1,7 @@
 // The loops over the edges of runs, for any step.
 ghost use Rattle.std.specs.Prelude.{◌≡◌, ℕ, length};
 ghost use Rattle.maths.specs.Lists.{fold};
-ghost use Rattle.runs.specs.Runs.{laid};
+ghost use Rattle.runs.specs.Runs.{run, laid};
 ghost use Rattle.codes.specs.Equations.{check_of, bit_of, word_of};
 ghost use Rattle.runs.specs.Steps.{put, over_run};
 
@@ -15,17 +15,19 @@ pub trait Step {
         ensures { result ≡ op x y };
 }
 
-// A step at the checks of a run, by its bits; a run that does not lie within is passed over.
-fn put_run<S: Step>(from: &[u8], to: &mut [u8], run: EdgeRun)
-    ensures { to.new ≡ over_run (length to.old) (length from.now) (put check_of bit_of S.op (word_of from.now)) run to.old }
+// A step at one end of each edge of a run, from the place near on, by the other end, from the place far on; a run that does not lie within is
+// passed over. (Plain numbers, since near may be a check or a bit: the callers say which.)
+fn put_run<S: Step>(from: &[u8], to: &mut [u8], near: u16, far: u16, size: u16)
+    ensures { to.new ≡ over_run (length to.old) (length from.now) (put check_of bit_of S.op (word_of from.now)) (run near far size) to.old }
 {
-    if !run.lies_within(to.len(), from.len()) {
+    let x = usize::from(near);
+    let y = usize::from(far);
+    let lies_within = x + usize::from(size) <= to.len() && y + usize::from(size) <= from.len();
+    if !lies_within {
         return;
     }
-    let x = usize::from(run.check);
-    let y = usize::from(run.bit);
     // By an index, for both ends: an iterator over one of them leaves it for the other, and was no faster.
-    for i in 0..usize::from(run.size) {
+    for i in 0..usize::from(size) {
         to[x + i] = S::step(to[x + i], from[y + i]);
     }
 }
@@ -35,7 +37,7 @@ pub fn put_at_checks<S: Step>(runs: &[EdgeRun], bits: &[u8], checks: &mut [u8])
     ensures { checks.new ≡ fold (put check_of bit_of S.op (word_of bits.now)) (laid (length checks.old) (length bits.now) runs.now) checks.old }
 {
     for run in runs {
-        put_run::<S>(bits, checks, *run);
+        put_run::<S>(bits, checks, run.check.0, run.bit.0, run.size);
     }
 }
 
@@ -44,6 +46,6 @@ pub fn put_at_bits<S: Step>(runs: &[EdgeRun], checks: &[u8], bits: &mut [u8])
     ensures { bits.new ≡ fold (put bit_of check_of S.op (word_of checks.now)) (laid (length checks.now) (length bits.old) runs.now) bits.old }
 {
     for run in runs {
-        put_run::<S>(checks, bits, run.turned());
+        put_run::<S>(checks, bits, run.bit.0, run.check.0, run.size);
     }
 }

@@ -1,3 +1,4 @@
+pub mod Zeros
 pub mod Digits
 pub mod Plain
 pub mod Lines

@@ -5,8 +5,9 @@ use Rattle.std.specs.Option.{option_map, option_and_then}
 use Rattle.std.proofs.lemmas.Bool.Decides.{nat_tests}
 use Rattle.std.proofs.lemmas.Slice.Eq.{bytes_eq-Decides}
 use lib.Seq.{drop-append_seam, take-append_seam}
+use Rattle.sheet_values.specs.Values.{begins}
 use Rattle.sheet_text.specs.Text.{newline, is_newline, line}
-use Rattle.sheet_text.specs.Reading.{begins, cut}
+use Rattle.sheet_text.specs.Reading.{cut}
 use Rattle.sheet_text.proofs.Plain.{plain}
 
 -- ---- a step whose value is there

@@ -1,8 +1,9 @@
 -- What an accepted text asks for, and the bytes of its frame. Assumes nothing.
-use Rattle.std.proofs.Common.{◌≡◌, ℕ, ◌+◌, ◌-◌, ◌/◌, ◌≤◌, List, [], ◌∷◌, ◌++◌, Option, Some, None, length, take, replicate, refl, sym, ap, ◌∙◌, length-append, le-leb, arith}
+use Rattle.std.proofs.Common.{◌≡◌, ℕ, ◌+◌, ◌-◌, ◌/◌, ◌≤◌, ◌<◌, List, [], ◌∷◌, ◌++◌, Option, Some, None, length, take, drop, replicate, refl, sym, ap, ◌∙◌, append_assoc, length-append, le-leb, arith}
+use Rattle.std.specs.Prelude.{IfSome}
 use Rattle.std.specs.Option.{option_map}
 use Rattle.std.proofs.lemmas.List.{length-replicate}
-use lib.Seq.{take_at}
+use lib.Seq.{take_at, drop-append_seam, take-append_seam}
 use Rattle.maths.proofs.Stores.{sets_replicate}
 use Rattle.sheet_values.specs.declared.Op.{Op}
 use Rattle.sheet_values.specs.declared.Op.TheVariants.{Encode, Bf, Ms}
@@ -11,7 +12,7 @@ use Rattle.sheet_values.specs.Values.{unhexed}
 use Rattle.sheet_values.proofs.Decimals.{decimal_long}
 use Rattle.sheet_values.proofs.Hex.{hex_length, hex_read, unhex_hex}
 use Rattle.sheet_text.specs.declared.read.Request.{Request}
-use Rattle.sheet_text.specs.Text.{line, Spells}
+use Rattle.sheet_text.specs.Text.{newline, line, Spells}
 use Rattle.sheet_text.specs.Reading.{Sheet, malformed, sheet, parse, asked, read_of}
 use Rattle.sheet_text.proofs.Digits.{line_length}
 use Rattle.sheet_text.proofs.BothWays.{accepted}
@@ -36,6 +37,37 @@ asks s q e = go (parse s) refl e
         let t : parse s ≡ sheet q.code q.op q.limit x.frame =
         p ∙ ap (λ (y : Sheet). sheet y.code y.op y.limit x.frame) (sym f) in
         record { frame = x.frame; parsed = t; shown = ap (λ (y : Sheet). y.frame) f; spelled = accepted _ _ _ _ s t }
+
+-- ---- where the frame stands: before the newline at the end
+module _ (front v : List ℕ) (b : ℕ) {s : List ℕ} (e : s ≡ front ++ (v ++ b ∷ [])) where
+  end_length : length s ≡ length front + length v + 1
+  end_length = omega (arith, ap length e, length-append front (v ++ b ∷ []), length-append v (b ∷ []))
+
+  before_end : v ≡ take (length v) (drop (length s - 1 - length v) s)
+  before_end =
+      let n : length s - 1 - length v ≡ length front = omega (arith, end_length) in
+      sym (rw (n, e, drop-append_seam front (v ++ b ∷ [])) (take-append_seam v (b ∷ [])))
+
+last_line : (front key v : List ℕ) → front ++ line key v ≡ (front ++ key) ++ (v ++ newline ∷ [])
+last_line front key v = simp append_assoc
+
+-- what stands before a sheet's frame
+abbrev before_frame : Request → List ℕ
+before_frame q = line (ascii "code=") (glyph q.code ∷ []) ++ line (ascii "op=") (name_of q.op) ++ line (ascii "maxiters=") (decimal q.limit) ++ ascii "frame="
+
+frame_last : (s : List ℕ) (q : Request) (a : Asked s q) → s ≡ before_frame q ++ (hex a.frame ++ newline ∷ [])
+frame_last s q a =
+    a.spelled.spelled
+    ∙ last_line (line (ascii "code=") (glyph q.code ∷ []) ++ line (ascii "op=") (name_of q.op) ++ line (ascii "maxiters=") (decimal q.limit)) (ascii "frame=") (hex a.frame)
+
+pub frame_placed : (s : List ℕ) (r : Option Request) → asked r ≡ read_of s
+    → IfSome r (λ q. q.frame.now ≡ take (length q.frame.now) (drop (length s - 1 - length q.frame.now) s))
+frame_placed s None e = tt
+frame_placed s (Some q) e = let a = asks s q e in rw a.shown (before_end (before_frame q) (hex a.frame) newline (frame_last s q a))
+
+pub frame_inside : (s : List ℕ) (r : Option Request) → asked r ≡ read_of s → IfSome r (λ q. length q.frame.now < length s)
+frame_inside s None e = tt
+frame_inside s (Some q) e = let a = asks s q e in rw a.shown (omega (arith, end_length (before_frame q) (hex a.frame) newline (frame_last s q a)))
 
 -- a text that asks for nothing is malformed
 pub asks_nothing : (s : List ℕ) → asked None ≡ read_of s → parse s ≡ malformed

@@ -2,11 +2,10 @@
 use Rattle.std.specs.Prelude.{Bool, cond, ◌&&◌, ◌==◌, nat_le, List, [], ◌∷◌, ℕ, ◌+◌, length, take, drop, Option, Some, None, is_none}
 use Rattle.std.specs.List.{position}
 use Rattle.std.specs.Option.{option_and_then, option_map}
-use Rattle.std.specs.Str.{bytes_eq}
 use Rattle.codes.specs.Answers.{test, first_of}
 use Rattle.sheet_values.specs.declared.Op.{Op}
 use Rattle.sheet_values.specs.Spelling.{ascii, hex}
-use Rattle.sheet_values.specs.Values.{digit_of, number_of, op_of, hex_text, unhex}
+use Rattle.sheet_values.specs.Values.{digit_of, number_of, begins, op_of, hex_text, unhex}
 use Rattle.sheet_text.specs.declared.read.Request.{Request}
 use Rattle.sheet_text.specs.Text.{is_newline, longest}
 
@@ -22,10 +21,6 @@ sheet code op limit frame = Some (record { code = code; op = op; limit = limit; 
 
 abbrev pub malformed : Option Sheet
 malformed = None
-
--- the text starts with the key
-abbrev pub begins : List ℕ → List ℕ → Bool
-begins key s = bytes_eq (take (length key) s) key
 
 -- a line with the key at the front of the text: its value, and the text after it
 unfoldable pub cut : List ℕ → List ℕ → Option (List ℕ × List ℕ)

@@ -1,5 +1,5 @@
 // Printing an answer: four lines, each a key, a value and a newline.
-ghost use Rattle.std.specs.Prelude.{◌≡◌, ◌+◌, ◌*◌, ◌<◌, ◌≤◌, List, [], ◌∷◌, ◌++◌, ℕ, length, take};
+ghost use Rattle.std.specs.Prelude.{◌≡◌, ◌+◌, ◌*◌, ◌<◌, ◌≤◌, [], ◌∷◌, ◌++◌, length, take};
 ghost use Rattle.sheet_values.specs.Spelling.{glyph, decimal, hex};
 ghost use Rattle.sheet_text.specs.Text.{line};
 ghost use Rattle.sheet_text.specs.Printing.{printed, max_output, room};
@@ -11,21 +11,28 @@ use std::marker::Model;
 const MAX_OUTPUT: usize = 1280;
 
 // Room for that, and for one more line.
-const ROOM: usize = 2720;
+pub const ROOM: usize = 2720;
 
-// The text of an answer, at the front of the bytes: fixed memory, no heap.
-#[derive(Drop)]
+// The text of an answer, at the front of the bytes, with zeros behind it: fixed memory, no heap.
+#[derive(Clone, Copy)]
 pub struct Answer {
-    bytes: [u8; ROOM],
-    len: usize,
+    pub len: usize,
+    pub bytes: [u8; ROOM],
 }
 
 impl Model for Answer {
+    ghost use Rattle.std.specs.Prelude.{List, ℕ, ◌++◌, ◌-◌, length, take, replicate};
+    ghost use Rattle.sheet_text.specs.Printing.{room, Zeroed, text_length, text_and_zeros};
+
     ghost Value = { List ℕ };
 
     ghost view = { λ a. take a.len a.bytes };
 
-    ghost invariant = { λ a. a.len ≤ room };
+    ghost invariant = { λ a. Zeroed a.len a.bytes };
+
+    ghost inverse = { λ t. record { len = length t; bytes = t ++ replicate (room - length t) 0 } };
+
+    ghost inverse_ok = { λ a h i. record { len = text_length a.len a.bytes h i; bytes = text_and_zeros a.len a.bytes h i } };
 }
 
 impl Answer {
@@ -33,8 +40,8 @@ impl Answer {
         ensures { result ≡ [] }
     {
         Answer {
-            bytes: [0; ROOM],
             len: 0,
+            bytes: [0; ROOM],
         }
     }
 

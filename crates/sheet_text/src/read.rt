@@ -1,5 +1,5 @@
 // Reading a bench sheet: four lines, each a key, a value and a newline.
-ghost use Rattle.std.specs.Prelude.{◌≡◌, MatchOption, Some, None};
+ghost use Rattle.std.specs.Prelude.{◌≡◌, ◌-◌, ◌<◌, MatchOption, Some, None, IfSome, length, take, drop};
 ghost use Rattle.std.specs.List.{position};
 ghost use Rattle.sheet_text.specs.Text.{is_newline};
 ghost use Rattle.sheet_text.specs.Reading.{cut, asked, read_of, text_number, read_answer};
@@ -36,11 +36,13 @@ fn cut<'a>(text: &'a [u8], key: &[u8]) -> Option<(&'a [u8], &'a [u8])>
     Some((&line[..end], &line[end + 1..]))
 }
 
-// Reads a sheet: its parts, or that it is malformed.
+// Reads a sheet: its parts, or that it is malformed. The frame is the part of the text that ends before the last newline.
 #[tactic(auto, unfolding(crate::specs::Reading::parse))]
 pub fn read(text: &[u8]) -> Option<Request<'_>>
     ensures parts { asked result ≡ read_of text.now }
     ensures number { text_number (asked result) ≡ read_answer text.now }
+    ensures place { IfSome result (λ q. q.frame.now ≡ take (length q.frame.now) (drop (length text.now - 1 - length q.frame.now) text.now)) }
+    ensures inside { IfSome result (λ q. length q.frame.now < length text.now) }
 {
     if text.len() > LONGEST {
         return None;

@@ -1,5 +1,5 @@
 -- Reading the value of a line. That this finds exactly what is spelled is a law, in proofs/. Assumes nothing.
-use Rattle.std.specs.Prelude.{Bool, cond, ◌&&◌, ◌||◌, ◌==◌, nat_lt, nat_le, List, [], ◌∷◌, ℕ, ◌+◌, ◌-◌, ◌*◌, ◌%◌, ◌/◌, length, get_or, is_some, Option, Some, None}
+use Rattle.std.specs.Prelude.{Bool, cond, ◌&&◌, ◌||◌, ◌==◌, nat_lt, nat_le, List, [], ◌∷◌, ℕ, ◌+◌, ◌-◌, ◌*◌, ◌%◌, ◌/◌, length, take, get_or, is_some, Option, Some, None}
 use Rattle.std.specs.Option.{option_and_then, unwrap_or}
 use Rattle.std.specs.List.{list_all}
 use Rattle.std.specs.Str.{bytes_eq}
@@ -31,6 +31,10 @@ number_from n (b ∷ s) = option_and_then (λ d. cond (nat_le (10 * n + d) large
 abbrev pub number_of : List ℕ → Option ℕ
 number_of v = cond (length v == 0 || (get_or v 0 0 == 48 && nat_lt 1 (length v))) None (number_from 0 v)
 
+-- the text starts with the word
+abbrev pub begins : List ℕ → List ℕ → Bool
+begins word s = bytes_eq (take (length word) s) word
+
 -- the operation with this name
 abbrev pub op_of : List ℕ → Option Op
 op_of v =
@@ -45,11 +49,11 @@ hex_digit b = is_some (value_of b)
 unfoldable pub hex_text : List ℕ → Bool
 hex_text v = length v % 2 == 0 && list_all hex_digit v
 
--- the bytes that pairs of digits say
+-- the bytes that pairs of digits say; a byte that is no digit counts as 16
 unfoldable pub unhex : List ℕ → List ℕ
 unhex [] = []
 unhex (a ∷ []) = []
-unhex (a ∷ b ∷ s) = (16 * unwrap_or (value_of a) 0 + unwrap_or (value_of b) 0) ∷ unhex s
+unhex (a ∷ b ∷ s) = (16 * unwrap_or (value_of a) 16 + unwrap_or (value_of b) 16) ∷ unhex s
 
 -- the bytes at the front of a buffer, which stays as it is where the digits are none or do not fit
 abbrev pub unhexed : List ℕ → List ℕ → List ℕ

@@ -5,7 +5,7 @@
 ghost use Rattle.std.specs.Prelude.{true, ◌≡◌, ◌≤◌, ◌*◌, length};
 ghost use Rattle.std.specs.List.{list_all};
 ghost use Rattle.std.proofs.lemmas.List.Edits.{sets};
-ghost use Rattle.sheet_values.specs.Values.{value_of, decimal_value, digit_of, number_of, number_from, op_of, hex_digit, hex_text, unhex, unhexed};
+ghost use Rattle.sheet_values.specs.Values.{value_of, decimal_value, digit_of, number_of, number_from, begins, op_of, hex_digit, hex_text, unhex, unhexed};
 
 #[derive(Clone, Copy, Debug, PartialEq, Eq)]
 pub enum Op {
@@ -62,6 +62,13 @@ pub fn number_of(v: &[u8]) -> Option<u32>
         [] | [b'0', _, ..] => None,
         _ => number_from(v),
     }
+}
+
+// The text starts with the word.
+pub fn starts_with(s: &[u8], word: &[u8]) -> bool
+    ensures { result ≡ begins word.now s.now }
+{
+    s.starts_with(word)
 }
 
 pub fn op_of(v: &[u8]) -> Option<Op>

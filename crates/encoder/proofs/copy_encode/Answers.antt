@@ -6,4 +6,4 @@ pub returns : goal.returns
 returns c =
     let read = passed_length _ _ (passes _ _ c.in_ok-check_length.ensures) in
     let written = passed_length _ _ (passes _ _ c.in_ok-check_length-2.ensures) in
-    copy_done _ _ _ c.params-row.ensures read written _ c.in_ok-code.ensures _ _ c.copy_from_slice.ensures.after c.encode_known.ensures
+    copy_done _ _ _ c.params-row.ensures read written _ c.in_ok-code.ensures _ c.copy_in.ensures c.encode_known.ensures

@@ -8,7 +8,7 @@ use Rattle.codes.specs.declared.refusal.Refusal.TheVariants.{UnknownCode}
 use Rattle.codes.specs.declared.parity_iter.ParityIter.{ParityIter}
 use Rattle.codes.specs.Codes.{known}
 use Rattle.codes.specs.Edges.{Edge, blocks_of, edges}
-use Rattle.codes.specs.Walk.{after, new_of, begun_of}
+use Rattle.codes.specs.Walk.{after, new_of, walk_at}
 use Rattle.codes.proofs.Remaining.{begin}
 use Rattle.measure.specs.Sum.{added, sum_of}
 use Rattle.measure.proofs.measure_walk.Goals as goal
@@ -27,7 +27,7 @@ begun_some : (code : ℕ) (b : Bool) {w : ParityIter} → Ok w ≡ pick b (Ok (n
 begun_some code true e = search (rules, e)
 begun_some code false e = search (rules, e)
 
-begun_none : (code : ℕ) {why : Refusal} → Err why ≡ begun_of code → 0 ≡ sum_of code
+begun_none : (code : ℕ) {why : Refusal} → Err why ≡ walk_at code → 0 ≡ sum_of code
 unfolding edges blocks_of flat_map fold
 begun_none code e = go (known code) refl e
   where
@@ -37,7 +37,7 @@ begun_none code e = go (known code) refl e
 
 pub loop-check-init : goal.loop-check-init
 loop-check-init c =
-    rw (c.into_iter-check-iterator.ensures.into_iter_gives, begun_some c.args.code (known c.args.code) c.in-Ok.ensures, begin)
+    rw (c.into_iter-check-iterator.ensures.into_iter_gives, begun_some c.args.code (known c.args.code) c.in-Ok.ensures.found, begin)
 
 pub loop-check-preserved : goal.loop-check-preserved
 loop-check-preserved c =
@@ -48,4 +48,4 @@ returns-in-None c =
     fold_last _ c.loop-check.sum (sym c.next.ensures.steps.leaves ∙ ap (λ r. after r c.next.new.self) c.in-None.is) c.loop-check.invariant
 
 pub returns-in_default : goal.returns-in_default
-returns-in_default c = begun_none c.args.code (sym c.in_default.is ∙ c.iter_paritychecks.ensures)
+returns-in_default c = begun_none c.args.code (sym c.in_default.is ∙ c.iter_paritychecks.ensures.found)

@@ -1,7 +1,7 @@
 use mathlib.Core.Path.{sym, ◌∙◌}
 use native.Mathlib.Omega.{arith}
 use lib.ListN.{length}
-use Rattle.min_sum.proofs.Fitting.{not_long, not_marked, not_few, made_up, makes_ready}
+use Rattle.min_sum.proofs.Fitting.{not_long, not_marked, not_few, made_up, makes_ready, ready_laid}
 use Rattle.messages_i8.proofs.Messages.new.Goals as goal
 
 -- the last fact of a split is how long what is left is
@@ -42,7 +42,7 @@ invariant_of-result c =
       v = omega (arith, u, c.in_ok-v.ensures.cases.1);
       first = omega (arith, checks, c.in_ok-first.ensures.cases.1);
       second = omega (arith, checks, c.in_ok-second.ensures.cases.1);
-      ready = rw (u, bits, checks) made;
+      ready = rw (u, bits, checks) (ready_laid c.args.at c.args.runs.now _ made);
     }
 
 pub returns : goal.returns

@@ -12,8 +12,8 @@ push_quarter-requires c =
     let f = c.requires in
     let b = c.args.block in
     let m = c.args.matrix.now in
-    let few = quarters_few b.size m.theta.now m.phi.now c.args.value b.check b.bit c.loop-j.j in
-    let long = length-append c.args.self.now (quarters b.size m.theta.now m.phi.now c.args.value b.check b.bit c.loop-j.j) in
+    let few = quarters_few b.size m.theta.now m.phi.now c.args.value b.check.0 b.bit.0 c.loop-j.j in
+    let long = length-append c.args.self.now (quarters b.size m.theta.now m.phi.now c.args.value b.check.0 b.bit.0 c.loop-j.j) in
     record {
       sized = f.sized;
       free = rw c.loop-j.invariant (omega (arith, long, few, f.free));

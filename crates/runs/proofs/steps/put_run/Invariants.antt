@@ -7,4 +7,4 @@ use Rattle.runs.proofs.steps.put_run.Given as goal
 -- what is left of the run, folded over the present bytes, gives what the whole run gives
 abbrev pub invariant-loop-i : goal.invariant-loop-i
 invariant-loop-i g l =
-    Putting (put check_of bit_of g.S.Step.op (word_of l.from)) (length l.fn.to) (length l.from) l.fn.run.check l.fn.run.bit l.fn.run.size l.i l.fn.to l.to
+    Putting (put check_of bit_of g.S.Step.op (word_of l.from)) (length l.fn.to) (length l.from) l.fn.near l.fn.far l.fn.size l.i l.fn.to l.to

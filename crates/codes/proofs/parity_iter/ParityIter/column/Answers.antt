@@ -64,13 +64,13 @@ module _ {w : ParityIter} {m : ℕ} {k : Block} (a : At w m k) where
 
 pub returns-in_default : goal.returns-in_default
 unfolding column_at
-returns-in_default c = simp (asked_unknown _ c.in_default.ensures).0
+returns-in_default c = simp (asked_unknown _ c.in_default.ensures.found).0
 
 pub returns-then-self-ge4 : goal.returns-then-self-ge4
 unfolding column_at
 returns-then-self-ge4 c =
-    let k = lt-ltb _ _ (asked_known _ c.in-Ok.ensures).0 in
-    let e = (asked_known _ c.in-Ok.ensures).1 in
+    let k = lt-ltb _ _ (asked_known _ c.in-Ok.ensures.found).0 in
+    let e = (asked_known _ c.in-Ok.ensures.found).1 in
     elim c.then-self-ge4.branch [
       | then-self-ge4-via-then-self-ge4 w ↦ simp (k, le-ltb _ _ w.if-self-ge4.true)
       | then-self-ge4-via-else-self-ge4+then-self-ge11 w ↦ simp (k, lt-ltb _ _ w.if-self-ge4.false, le-ltb _ _ w.if-self-ge11.true)
@@ -87,22 +87,22 @@ returns-then-self-ge4 c =
     ]
 
 pub identity_column-requires : goal.identity_column-requires
-identity_column-requires c = let a = at (asked_known _ c.in-Ok.ensures) c.if-self-ge4.false c.if-self-ge11.false c.if-self-ge3.false c.if-self-m.false c.prototype_of-h.ensures c.from.ensures in (high a, (small a _ c.in-Identity.is, low a))
+identity_column-requires c = let a = at (asked_known _ c.in-Ok.ensures.found) c.if-self-ge4.false c.if-self-ge11.false c.if-self-ge3.false c.if-self-m.false c.prototype_of-h.ensures c.from.ensures in (high a, (small a _ c.in-Identity.is, low a))
 
 pub permutation_column-requires : goal.permutation_column-requires
-permutation_column-requires c = let a = at (asked_known _ c.in-Ok.ensures) c.if-self-ge4.false c.if-self-ge11.false c.if-self-ge3.false c.if-self-m.false c.prototype_of-h.ensures c.from.ensures in (high a, (fourth a, (small a _ c.in-Permutation.is, low a)))
+permutation_column-requires c = let a = at (asked_known _ c.in-Ok.ensures.found) c.if-self-ge4.false c.if-self-ge11.false c.if-self-ge3.false c.if-self-m.false c.prototype_of-h.ensures c.from.ensures in (high a, (fourth a, (small a _ c.in-Permutation.is, low a)))
 
 pub returns-in-Ends : goal.returns-in-Ends
-returns-in-Ends c = rw (column_at_block (at (asked_known _ c.in-Ok.ensures) c.if-self-ge4.false c.if-self-ge11.false c.if-self-ge3.false c.if-self-m.false c.prototype_of-h.ensures c.from.ensures) _ c.in-Ends.is)
+returns-in-Ends c = rw (column_at_block (at (asked_known _ c.in-Ok.ensures.found) c.if-self-ge4.false c.if-self-ge11.false c.if-self-ge3.false c.if-self-m.false c.prototype_of-h.ensures c.from.ensures) _ c.in-Ends.is)
 
 pub returns-in-Empty : goal.returns-in-Empty
-returns-in-Empty c = rw (column_at_block (at (asked_known _ c.in-Ok.ensures) c.if-self-ge4.false c.if-self-ge11.false c.if-self-ge3.false c.if-self-m.false c.prototype_of-h.ensures c.from.ensures) _ c.in-Empty.is)
+returns-in-Empty c = rw (column_at_block (at (asked_known _ c.in-Ok.ensures.found) c.if-self-ge4.false c.if-self-ge11.false c.if-self-ge3.false c.if-self-m.false c.prototype_of-h.ensures c.from.ensures) _ c.in-Empty.is)
 
 pub returns-in-Identity : goal.returns-in-Identity
-returns-in-Identity c = let a = at (asked_known _ c.in-Ok.ensures) c.if-self-ge4.false c.if-self-ge11.false c.if-self-ge3.false c.if-self-m.false c.prototype_of-h.ensures c.from.ensures in rw (column_at_block a _ c.in-Identity.is, c.identity_column.ensures, ← a.size)
+returns-in-Identity c = let a = at (asked_known _ c.in-Ok.ensures.found) c.if-self-ge4.false c.if-self-ge11.false c.if-self-ge3.false c.if-self-m.false c.prototype_of-h.ensures c.from.ensures in rw (column_at_block a _ c.in-Identity.is, c.identity_column.ensures, ← a.size)
 
 pub returns-in-Permutation : goal.returns-in-Permutation
 unfolding thetas
 returns-in-Permutation c =
-    let a = at (asked_known _ c.in-Ok.ensures) c.if-self-ge4.false c.if-self-ge11.false c.if-self-ge3.false c.if-self-m.false c.prototype_of-h.ensures c.from.ensures in
+    let a = at (asked_known _ c.in-Ok.ensures.found) c.if-self-ge4.false c.if-self-ge11.false c.if-self-ge3.false c.if-self-m.false c.prototype_of-h.ensures c.from.ensures in
     rw (column_at_block a _ c.in-Permutation.is, c.permutation_column.ensures ∙ permuted a c.in-Permutation.v c.phi_of-phi.ensures)
